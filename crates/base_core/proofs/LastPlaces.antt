@@ -9,7 +9,7 @@ abbrev pub at_last : List ℕ → List ℕ
 at_last [] = []
 at_last (x ∷ xs) = if has xs x then at_last xs else x ∷ at_last xs
 
--- how often x stands in a list
+-- how often x occurs in a list
 abbrev times : ℕ → List ℕ → ℕ
 times x [] = 0
 times x (y ∷ ys) = cond (eqb y x) (suc (times x ys)) (times x ys)
@@ -44,7 +44,7 @@ all-left x y (z ∷ zs) apart = elim (cases_eq z y) [
   | inr other ↦ ap (times x) (without-other y z zs other) ∙ ap (λ n. cond (eqb z x) (suc n) n) (all-left x y zs apart)
 ]
 
--- each member stands once among the different ones
+-- each member occurs once among the different ones
 once : (x : ℕ) (xs : List ℕ) → times x (different xs) ≡ cond (has xs x) 1 0
 once x [] = refl
 once x (y ∷ ys) = elim (cases_eq y x) [

@@ -49,7 +49,7 @@ missed x (y ∷ ys) (suc j) h e f = by_test (missed x ys j (omega (arith, h)) e)
 
 -- ---- Fewer values than arguments
 
--- equal numbers of the first list stand beside equal ones of the second
+-- equal numbers of the first list are beside equal ones of the second
 Follows : List ℕ → List ℕ → Type 0
 Follows gs ns = (i j : ℕ) → i < length gs → j < length gs → slice_index gs i ≡ slice_index gs j → slice_index ns i ≡ slice_index ns j
 

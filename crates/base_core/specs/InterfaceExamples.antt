@@ -13,7 +13,7 @@ functions_three = refl
 different_three : different (1 ∷ 1 ∷ 0 ∷ []) ≡ 1 ∷ 0 ∷ []
 different_three = refl
 
--- each stands at its first place
+-- each is at its first place
 first_places : different (1 ∷ 0 ∷ 1 ∷ 2 ∷ 0 ∷ []) ≡ 1 ∷ 0 ∷ 2 ∷ []
 first_places = refl
 

@@ -19,7 +19,7 @@ impl<T: Drop> From<AllocFailed<T>> for Memory {
     }
 }
 
-/// Where a row stands: its number, from 0, and the line that opens its block, from 1.
+/// Where a row is: its number, from 0, and the line that opens its block, from 1.
 #[derive(Clone, Copy, Debug, PartialEq, Eq, Drop)]
 pub struct Place {
     /// The number of the row, from 0, in the order of the file.

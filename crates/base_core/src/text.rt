@@ -5,7 +5,7 @@ use smallvec::SmallVec;
 use std::alloc::Global;
 use std::marker::Model;
 
-/// So many bytes stand in the text itself, which is enough for nearly all names.
+/// So many bytes are in the text itself, which is enough for nearly all names.
 const INLINE: usize = 16;
 
 /// Bytes, seen as their list. Few of them take no memory of their own.
@@ -30,7 +30,7 @@ impl Text {
         }
     }
 
-    /// A copy of the bytes. The only fault is want of memory.
+    /// A copy of the bytes. The only error is out of memory.
     pub fn copy_of(alloc: Global, bytes: &[u8]) -> Result<Text, Memory>
         ensures { IfOk result (λ text. text ≡ bytes.now) }
     {
@@ -38,7 +38,7 @@ impl Text {
         Ok(Text { bytes })
     }
 
-    /// A name with a number at its end. The only fault is want of memory.
+    /// A name with a number at its end. The only error is out of memory.
     pub fn numbered(alloc: Global, front: &str, number: u64) -> Result<Text, Memory>
         ensures { IfOk result (λ text. text ≡ front.now ++ decimal number) }
     {

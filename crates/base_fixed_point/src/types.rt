@@ -9,7 +9,7 @@ pub struct FixType {
     pub signed: bool,
     /// How many bits they have, the sign among them.
     pub bits: u8,
-    /// How many of these stand behind the point.
+    /// How many of these are after the point.
     pub frac: u8,
     pub ghost in_profile: { InProfile signed bits frac },
 }

@@ -63,7 +63,7 @@ third = record {
     new (suc zero, below, same) = omega (arith, same)
     new (suc (suc k), below, same) = omega arith
 
--- node 1 is the least that may stand first, and node 0 stands behind node 2
+-- node 1 is the least that may be first, and node 0 is after node 2
 pub order_of_three : IsOrder needing (1 ∷ 2 ∷ 0 ∷ [])
 order_of_three = record { has_all = all; is_least_first = (first, (second, (third, tt))) }
   where

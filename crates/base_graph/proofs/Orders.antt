@@ -1,16 +1,16 @@
--- The order is one: two lists that take the least node that may stand at each place are equal.
+-- The order is one: two lists that take the least node that may be at each place are equal.
 use Rattle.std.proofs.Common.{◌≡◌, ℕ, ◌<◌, List, [], ◌∷◌, ◌++◌, Contains, refl, sym, ap₂, subst, arith, append_assoc, append-nil}
 use Rattle.base_graph.specs.NeedsGraph.{NeedsGraph}
 use Rattle.base_graph.specs.OneOrder.{IsNext, Follows, IsOrder}
 
--- every node stands among the placed ones or in the list
+-- every node is among the placed ones or in the list
 abbrev pub HasAll : NeedsGraph → List ℕ → List ℕ → Type 0
 HasAll g placed list = (b : ℕ) → b < g.n → Contains (placed ++ list) b
 
 all-on : (g : NeedsGraph) (placed : List ℕ) (b : ℕ) (list : List ℕ) → HasAll g placed (b ∷ list) → HasAll g (placed ++ b ∷ []) list
 all-on g placed b list all c below = rw append_assoc (all c below)
 
--- where all is placed, nothing may stand
+-- where all is placed, nothing may be next
 none-left : (g : NeedsGraph) (placed : List ℕ) (b : ℕ) → HasAll g placed [] → IsNext g placed b → ⊥
 none-left g placed b all next = next.may_stand.is_new (subst (λ xs. Contains xs b) (append-nil placed) (all b next.may_stand.is_node))
 

@@ -106,7 +106,7 @@ trail-push : (g : NeedsGraph) (path : List ℕ) (a c : ℕ) → Trail g path a �
 trail-push g [] a c t n = n
 trail-push g (p ∷ path) a c t n = walk-push g p path a c t n
 
--- from where the node stands in the path on, the path is a cycle
+-- from where the node is in the path on, the path is a cycle
 cycle-from : (g : NeedsGraph) (path : List ℕ) (at first : ℕ) → Trail g path at → first < length path →
     get_or path first 0 ≡ at → IsCycle g (drop first path)
 cycle-from g [] at first t below same = absurd (omega arith)

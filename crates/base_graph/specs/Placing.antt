@@ -1,4 +1,4 @@
--- An order on the way: what is placed, what each other node still needs, and what may stand next.
+-- An order on the way: what is placed, what each other node still needs, and what may be next.
 use Rattle.std.specs.Prelude.{◌≡◌, ℕ, ◌<◌, List, [], length, slice_index, Contains, ◌↔◌}
 use Rattle.base_graph.specs.NeedsGraph.{NeedsGraph, Needs}
 use Rattle.base_graph.specs.OneOrder.{Follows, IsOrder}

@@ -11,7 +11,7 @@ use crate::{Graph, OrderFault};
 use base_core::Memory;
 use std::alloc::Global;
 
-/// The one order of the nodes: each node once, behind what it needs, and at each place the least node that may stand there.
+/// The one order of the nodes: each node once, after what it needs, and at each place the least node that may be there.
 ///
 /// In time linear in edges and in nodes times a logarithm.
 pub fn order(alloc: Global, g: &Graph) -> Result<Vec<u32>, OrderFault>

@@ -10,7 +10,7 @@ use base_core::Memory;
 use std::alloc::Global;
 use std::collections::BTreeSet;
 
-/// Places nodes for as long as one may stand next, the least of these each time, and takes the needs that are met from the counts.
+/// Places nodes for as long as one may be next, the least of these each time, and takes the needs that are met from the counts.
 pub fn place(alloc: Global, g: &Graph, unmet: &mut Vec<usize>) -> Result<Vec<u32>, Memory>
     requires { AreUnmet g.now [] unmet.old.items }
     ensures { IfOk result (λ v. ArePlaced g.now v.items unmet.new.items) }

@@ -26,7 +26,7 @@ pub fn masks(alloc: Global, g: &Graph, source: &[u64]) -> Result<Vec<u64>, Memor
 
 /// All nodes of a graph of `n`.
 ///
-/// Fails only for want of memory.
+/// Fails only when memory runs out.
 pub fn nodes(alloc: Global, n: u32) -> Result<Vec<u32>, Memory>
     ensures { IfOk result (λ v. All (λ a. a < n) v.items × ((a : ℕ) → a < n → Contains v.items a)) }
 {

@@ -1,4 +1,4 @@
--- Bytes that wait, and the room that they stand in.
+-- Bytes that wait, and the room that they are in.
 use Rattle.std.proofs.Common.{◌≡◌, ◌≤◌, ℕ, ◌+◌, ◌-◌, min, List, [], ◌++◌, length, take, drop, refl, ap, sym, ◌∙◌, append_assoc, arith}
 use Rattle.std.specs.Prelude.{Option, Some, None, Result, Ok, Err, OnOk, OnErr}
 use Rattle.std.specs.Io.KnownBytes.{append_known}
@@ -12,11 +12,11 @@ pub append_known-none : (k : Option (List ℕ)) → append_known k [] ≡ k
 append_known-none None = refl
 append_known-none (Some xs) = ap (λ ys. Some ys) (append-nil xs)
 
--- nothing was put
+-- nothing was written
 pub all_held : (text held : List ℕ) (k : Option (List ℕ)) → held ≡ text → PutsAllBut held text k k
 all_held text held k is = record { gone = []; parts = sym is; put = sym (append_known-none k) }
 
--- all was put
+-- all was written
 pub none_held : (text held : List ℕ) (old new : Option (List ℕ)) → held ≡ [] → new ≡ append_known old text → PutsAllBut held text old new
 none_held text held old new none put = record {
   gone = text;
@@ -24,7 +24,7 @@ none_held text held old new none put = record {
   put = put;
 }
 
--- what was held before was put, and then all of a text but what is held now
+-- what was held before was written, and then all of a text but what is held now
 pub put_before : (held before text : List ℕ) (old now new : Option (List ℕ)) → now ≡ append_known old before →
     PutsAllBut held text now new → PutsAllBut held (before ++ text) old new
 put_before held before text old now new is then_text = record {
@@ -33,14 +33,14 @@ put_before held before text old now new is then_text = record {
   put = then_text.put ∙ ap (λ k. append_known k then_text.gone) is ∙ append_known-twice old before then_text.gone;
 }
 
--- a front of what was held was put
+-- a front of what was held was written
 pub front_of_held : (held text : List ℕ) (old new : Option (List ℕ)) → PutsFront old new held → PutsFront old new (held ++ text)
 front_of_held held text old new front = (
   min front.0 (length held),
   front.1 ∙ ap (append_known old) (sym (take-append-le (min front.0 (length held)) held text (omega arith) ∙ take_min front.0 held)),
 )
 
--- what was held was put, and a front of more
+-- what was held was written, and a front of more
 pub front_behind : (before text : List ℕ) (old now new : Option (List ℕ)) → now ≡ append_known old before →
     PutsFront now new text → PutsFront old new (before ++ text)
 front_behind before text old now new is front = (
@@ -70,7 +70,7 @@ kept_before room into behind more len start end ordered within fits =
     ∙ take-append-le end (take end room) (into ++ behind ++ more) (omega arith) ∙ take-take end end room (omega arith)
     )
 
--- and what is written is behind them
+-- and what is written is after them
 pub grown : (room into behind more : List ℕ) (len start end n : ℕ) → start ≤ end → end ≤ length room → n ≤ length into → end + n ≤ len →
     take (end + n - start) (drop start (take len (take end room ++ (into ++ behind) ++ more)))
     ≡ take (end - start) (drop start room) ++ take n into

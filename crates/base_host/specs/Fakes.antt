@@ -17,7 +17,7 @@ pub record HostState : Type 0 where
   pub given : ℕ
   pub read_faults : ℕ
   pub write_faults : ℕ
-  -- how many calls failed for want of memory
+  -- how many calls failed because memory ran out
   pub refused : ℕ
 
 -- a sink in memory
@@ -29,11 +29,11 @@ pub record SinkState : Type 0 where
   pub faults : ℕ
   pub refused : ℕ
 
--- a count goes up, and stands still at the greatest value of a u64
+-- a count goes up, and stays the same at the greatest value of a u64
 abbrev pub next_count : ℕ → ℕ
 next_count n = min (n + 1) (2 ^ 64 - 1)
 
--- a count grows by so many, and stands still at that value
+-- a count grows by so many, and stays the same at that value
 abbrev pub count_on : ℕ → ℕ → ℕ
 count_on n more = min (n + more) (2 ^ 64 - 1)
 

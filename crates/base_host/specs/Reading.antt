@@ -7,7 +7,7 @@ use Rattle.base_host.specs.Files.{File, OnFile}
 abbrev pub RoseBy : ℕ → ℕ → ℕ → Type 0
 RoseBy n before now = min now (2 ^ 64 - 1) ≡ min (before + n) (2 ^ 64 - 1)
 
--- what is left of the open file, where that is told, and how many bytes reads have given so far
+-- what is left of the open file, where that is known, and how many bytes reads have given so far
 pub record Source : Type 0 where
   pub rest : Option (List ℕ)
   pub given : ℕ

@@ -8,7 +8,7 @@ three-more = refl
 none-more : RoseBy 0 5 5
 none-more = refl
 
--- at its greatest value a count stands still
+-- at its greatest value a count stays the same
 full : RoseBy 3 (2 ^ 64 - 2) (2 ^ 64 - 1)
 full = refl
 

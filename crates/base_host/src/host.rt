@@ -5,26 +5,26 @@ ghost use Rattle.base_host.specs.Faults.{HasCause};
 ghost use Rattle.base_host.specs.Files.{File, OnFile, lookup, add_file, grow_file};
 ghost use Rattle.base_host.specs.Reading.{RoseBy};
 
-/// A call of a host or a sink failed, and the count of its faults says so.
+/// A call of a host or a sink failed, and the count of its errors says so.
 #[derive(Clone, Copy, Debug, PartialEq, Eq)]
 pub struct Failed;
 
 /// Files that are read and written by name, one at a time each way.
 ///
-/// What a host holds is told by ghost members: the contracts speak of them, and no code reads them. A call
-/// that fails changes nothing but the count of its faults, and `open_read` leaves nothing to read besides. The count of
+/// What a host holds is said by ghost members: the contracts speak of them, and no code reads them. A call
+/// that fails changes nothing but the count of its errors, and `open_read` leaves nothing to read besides. The count of
 /// the bytes that were given rises by `read` alone.
 pub trait Host {
-    /// The files that can be read, where they are told.
+    /// The files that can be read, where they are known.
     ghost files: { Self → Option (List File) };
 
-    /// The unread bytes of the file that is being read, where they are told.
+    /// The unread bytes of the file that is being read, where they are known.
     ghost rest: { Self → Option (List ℕ) };
 
     /// How many bytes reads have given.
     ghost given: { Self → ℕ };
 
-    /// The files that were written, where they are told.
+    /// The files that were written, where they are known.
     ghost written: { Self → Option (List File) };
 
     /// How many calls that read have failed.
@@ -33,13 +33,13 @@ pub trait Host {
     /// How many calls that write have failed.
     ghost write_faults: { Self → ℕ };
 
-    /// Whether it is sure that the file of a name can be read to its end without a fault.
+    /// Whether it is sure that the file of a name can be read to its end without an error.
     ghost sure: { Self → List ℕ → Bool };
 
     /// Whether it is sure of the rest of the file that is being read.
     ghost sure_rest: { Self → Bool };
 
-    /// Begins to read the first file of that name. A missing file is a fault.
+    /// Begins to read the first file of that name. A missing file is an error.
     fn open_read(&mut self, name: &str) -> Result<(), Failed>
         ensures opened { OnOk result (OnFile (files self.old) (rest self.old) name.now
             (λ bytes. rest self.new ≡ Some bytes)) }

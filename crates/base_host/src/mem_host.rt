@@ -1,4 +1,4 @@
-// A host in memory, which tells everything, and fails where it is told to.
+// A host in memory, of which all is known, and which fails where it is set to.
 ghost use Rattle.std.specs.Prelude.{◌≡◌, ◌<◌, ◌≤◌, ◌↔◌, ◌⊎◌, [], ◌++◌, take, drop, min, length, Some, None, false, IfOk, OnOk, OnErr, IsErr, IsNone, IsSomeAnd, ◌∷◌, Contains};
 ghost use Rattle.base_host.specs.Faults.{HasCause, Rose};
 ghost use Rattle.base_host.specs.Files.{lookup, grow_last};
@@ -96,7 +96,7 @@ impl MemHost {
         &self.written
     }
 
-    /// How many calls failed for want of memory.
+    /// How many calls failed because memory ran out.
     pub fn refused(&self) -> u64
         ensures { result ≡ self.now.refused }
     {

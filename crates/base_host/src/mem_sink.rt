@@ -1,4 +1,4 @@
-// A sink in memory, which tells everything, and fails where it is told to.
+// A sink in memory, of which all is known, and which fails where it is set to.
 ghost use Rattle.std.specs.Prelude.{◌≡◌, ◌<◌, ◌≤◌, ◌⊎◌, [], ◌++◌, take, min, length, Some, IfOk, OnOk, OnErr, IsErr, Contains};
 ghost use Rattle.base_host.specs.Faults.{HasCause, Rose};
 ghost use Rattle.base_host.specs.Fakes.{next_count, SinkState};
@@ -61,14 +61,14 @@ impl MemSink {
         }
     }
 
-    /// The bytes that were put.
+    /// The bytes that were written.
     pub fn bytes(&self) -> &[u8]
         ensures { result.now ≡ self.now.bytes }
     {
         &self.bytes
     }
 
-    /// How many calls failed for want of memory.
+    /// How many calls failed because memory ran out.
     pub fn refused(&self) -> u64
         ensures { result ≡ self.now.refused }
     {

@@ -1,4 +1,4 @@
-// Bytes that wait to be put, so that a sink takes them in blocks.
+// Bytes that wait to be written, so that a sink takes them in blocks.
 ghost use Rattle.std.specs.Prelude.{◌≡◌, [], ◌++◌, IfOk, OnOk, OnErr};
 ghost use Rattle.std.specs.Io.KnownBytes.{append_known};
 ghost use Rattle.base_host.specs.Faults.{HasCause};
@@ -12,7 +12,7 @@ use std::marker::Model;
 // How many bytes wait at most.
 const BLOCK: usize = 65_536;
 
-/// Bytes that wait to be put. It is seen as these bytes.
+/// Bytes that wait to be written. It is seen as these bytes.
 #[derive(Drop)]
 pub struct PutBuffer {
     bytes: Vec<u8>,
@@ -38,9 +38,9 @@ impl PutBuffer {
         })
     }
 
-    /// Takes the bytes, and puts those that waited before where they would be too many.
+    /// Takes the bytes, and writes those that waited before where they would be too many.
     ///
-    /// Fails only where the sink counted a fault. Then a front of what waited and of the bytes was put, and the rest is lost.
+    /// Fails only where the sink counted an error. Then a front of what waited and of the bytes was written, and the rest lost.
     pub fn put<S: Sink>(&mut self, sink: &mut S, bytes: &[u8]) -> Result<(), Failed>
         ensures taken { OnOk result (PutsAllBut self.new (self.old ++ bytes.now) (S.bytes sink.old)
             (S.bytes sink.new)) }
@@ -57,7 +57,7 @@ impl PutBuffer {
         self.begin(sink, bytes)
     }
 
-    // Takes bytes where nothing waits, or puts them at once where there is no room for so many.
+    // Takes bytes where nothing waits, or writes them at once where there is no room for so many.
     fn begin<S: Sink>(&mut self, sink: &mut S, bytes: &[u8]) -> Result<(), Failed>
         requires { self.old ≡ [] }
         ensures taken { OnOk result (PutsAllBut self.new bytes.now (S.bytes sink.old) (S.bytes sink.new)) }
@@ -71,9 +71,9 @@ impl PutBuffer {
         Ok(())
     }
 
-    /// Puts all that waits.
+    /// Writes all that waits.
     ///
-    /// Fails only where the sink counted a fault. Then a front of it was put, and the rest is lost.
+    /// Fails only where the sink counted an error. Then a front was written, and the rest is lost.
     pub fn flush<S: Sink>(&mut self, sink: &mut S) -> Result<(), Failed>
         ensures empty { self.new ≡ [] }
         ensures whole { OnOk result (S.bytes sink.new ≡ append_known (S.bytes sink.old) self.old) }

@@ -12,7 +12,7 @@ use std::marker::Model;
 // How many bytes there is room for.
 const ROOM: usize = 65_536;
 
-/// Bytes of a file that were read, and are not yet taken: 65,536 at most. It is seen as these bytes and the room behind them.
+/// Bytes of a file that were read, and are not yet taken: 65,536 at most. It is seen as these bytes and the room after them.
 #[derive(Drop)]
 pub struct ReadBuffer {
     bytes: Vec<u8>,
@@ -61,7 +61,7 @@ impl ReadBuffer {
         self.start += count;
     }
 
-    // Moves the bytes to the front of the room, where they leave more behind them.
+    // Moves the bytes to the front of the room, where they leave more after them.
     fn move_to_front(&mut self)
         ensures same { self.new.bytes ≡ self.old.bytes }
         ensures room { self.new.room + length self.old.bytes ≡ 65536 }
@@ -71,7 +71,7 @@ impl ReadBuffer {
         self.start = 0;
     }
 
-    // Reads into the room behind the bytes.
+    // Reads into the room after the bytes.
     fn read<H: Host>(&mut self, host: &mut H) -> Result<usize, Failed>
         requires room { 0 < self.old.room }
         ensures more { IfOk result (λ n. ReadsOn n self.old.bytes self.new.bytes
@@ -91,9 +91,9 @@ impl ReadBuffer {
         Ok(count)
     }
 
-    /// Reads further bytes of the open file behind those that are there, and says how many: 0 exactly at its end.
+    /// Reads further bytes of the open file after those that are there, and says how many: 0 exactly at its end.
     ///
-    /// Fails only where the host counted a fault, and leaves the bytes as they are.
+    /// Fails only where the host counted an error, and leaves the bytes as they are.
     pub fn fill<H: Host>(&mut self, host: &mut H) -> Result<usize, Failed>
         requires room { length self.old.bytes < 65536 }
         ensures more { IfOk result (λ n. ReadsOn n self.old.bytes self.new.bytes

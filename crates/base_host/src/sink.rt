@@ -1,15 +1,15 @@
-// What bytes are put to, one piece after another.
+// What bytes are written to, one piece after another.
 ghost use Rattle.std.specs.Prelude.{◌≡◌, ℕ, ◌<◌, ◌≤◌, List, take, length, Option, IfOk, MatchResult};
 ghost use Rattle.std.specs.Io.KnownBytes.{append_known};
 ghost use Rattle.base_host.specs.Faults.{HasCause};
 
 use crate::Failed;
 
-/// What bytes are put to, as standard output.
+/// What bytes are written to, as standard output.
 ///
-/// A call that fails changes nothing but the count of the faults.
+/// A call that fails changes nothing but the count of the errors.
 pub trait Sink {
-    /// The bytes that were put, where they are told.
+    /// The bytes that were written, where they are known.
     ghost bytes: { Self → Option (List ℕ) };
 
     /// How many calls have failed.

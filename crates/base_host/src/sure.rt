@@ -154,14 +154,14 @@ impl Model for SureSink {
 }
 
 impl SureSink {
-    /// A sink to which nothing was put.
+    /// A sink to which nothing was written.
     pub fn new() -> SureSink
         ensures { result ≡ 0 }
     {
         SureSink { taken: 0 }
     }
 
-    /// How many bytes were put.
+    /// How many bytes were written.
     pub fn taken(&self) -> u64
         ensures { result ≡ self.now }
     {

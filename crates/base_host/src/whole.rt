@@ -24,7 +24,7 @@ const PIECE: usize = 4096;
 
 /// The bytes of the first file of that name.
 ///
-/// Fails with `Read` only where the host counted a fault, with `TooLong` only where the file has more than `max`
+/// Fails with `Read` only where the host counted an error, with `TooLong` only where the file has more than `max`
 /// bytes, and with `Memory` where memory runs out. The host's count of bytes given rises by the length of what was read.
 pub fn read_all<H: Host>(
     alloc: Global,
@@ -80,7 +80,7 @@ pub fn read_all<H: Host>(
 
 /// Writes a file of that name whole.
 ///
-/// Fails only where the host counted a fault. Then the file isn't there, or holds the front of the bytes.
+/// Fails only where the host counted an error. Then the file isn't there, or holds the front of the bytes.
 pub fn write_all<H: Host>(host: &mut H, name: &str, bytes: &[u8]) -> Result<(), Failed>
     ensures whole { OnOk result (H.written host.new ≡ add_file (H.written host.old) name.now bytes.now) }
     ensures front { OnErr result (WritesFront (H.written host.old) (H.written host.new) name.now bytes.now) }
@@ -98,9 +98,9 @@ pub fn write_all<H: Host>(host: &mut H, name: &str, bytes: &[u8]) -> Result<(), 
     Ok(())
 }
 
-/// Puts all the bytes.
+/// Writes all the bytes.
 ///
-/// Fails only where the sink counted a fault. Then the front of the bytes was put.
+/// Fails only where the sink counted an error. Then the front of the bytes was written.
 pub fn put_all<S: Sink>(sink: &mut S, bytes: &[u8]) -> Result<(), Failed>
     ensures whole { OnOk result (S.bytes sink.new ≡ append_known (S.bytes sink.old) bytes.now) }
     ensures front { OnErr result (PutsFront (S.bytes sink.old) (S.bytes sink.new) bytes.now) }

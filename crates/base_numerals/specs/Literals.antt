@@ -65,7 +65,7 @@ times_power_of_ten negative n (pos power) = in_lowest_terms (with_sign negative 
 times_power_of_ten negative n (negsuc power) =
     in_lowest_terms (with_sign negative n) (10 ^ suc power)
 
--- the value of digits before and behind a point with an exponent
+-- the value of digits before and after a point with an exponent
 abbrev pub point_value : Bool → List ℕ → List ℕ → Exponent → Result Ratio NumFault
 point_value negative before behind exponent =
     let digits = before ++ behind in
@@ -115,7 +115,7 @@ plain_value text =
     else if bytes_eq text (codes "false") then Ok (record { num = pos 0; den = 1 })
     else unsigned_value (starts_with_minus text) (without_leading_sign text)
 
--- what stands between `[` and `]`, or the text itself where it isn't in brackets
+-- what is between `[` and `]`, or the text itself where it isn't in brackets
 abbrev pub without_brackets : List ℕ → List ℕ
 without_brackets [] = []
 without_brackets (c ∷ rest) =
@@ -130,7 +130,7 @@ number_value text = plain_value (without_brackets (trim text))
 abbrev pub ratio_of : Decimal → Ratio
 ratio_of decimal = record { num = decimal.num; den = decimal.den }
 
--- a reading of a number gives the decimal of this value, or this fault
+-- a reading of a number gives the decimal of this value, or this error
 abbrev pub ReadsAs : Result Decimal NumFault → Result Ratio NumFault → Type 0
 ReadsAs result value = result_map_both ratio_of (λ fault. fault) result ≡ value
 

@@ -19,7 +19,7 @@ const LIMIT: usize = 18;
 /// between `[` and `]`. Blanks at both ends don't count.
 ///
 /// Fails with `Form` where the text is none of these, and else with `Range` where a digit string has more than 18
-/// significant digits, or the exponent, less the digits behind the point, lies beyond -18 to 18. A number 0 has
+/// significant digits, or the exponent, less the digits after the point, lies beyond -18 to 18. A number 0 has
 /// any exponent of up to 18 digits.
 pub fn read_decimal(text: &[u8]) -> Result<Decimal, NumFault>
     ensures { ReadsAs result (number_value text.now) }
@@ -27,7 +27,7 @@ pub fn read_decimal(text: &[u8]) -> Result<Decimal, NumFault>
     read_plain(without_brackets(trim(text)))
 }
 
-// What stands between `[` and `]`, or the text itself.
+// What is between `[` and `]`, or the text itself.
 fn without_brackets(text: &[u8]) -> &[u8]
     ensures { result.now ≡ literal.without_brackets text.now }
 {
@@ -94,7 +94,7 @@ fn read_quotient(negative: bool, over: &[u8], under: &[u8]) -> Result<Decimal, N
     Ok(lowest_terms(negative, u128::from(num), den))
 }
 
-// The number with these digits before and behind its point, where `rest` is the text of its exponent.
+// The number with these digits before and after its point, where `rest` is the text of its exponent.
 fn read_point(
     negative: bool,
     before: &[u8],

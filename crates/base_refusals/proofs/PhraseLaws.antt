@@ -4,7 +4,7 @@ use Rattle.std.specs.List.{join_with_byte}
 use Rattle.base_core.specs.declared.base.Place.{Place}
 use Rattle.base_refusals.specs.Refusals.{refusal_phrase, line_word, Loop}
 
--- words joined by a space are the first, and each further one behind a space
+-- words joined by a space are the first, and each further one after a space
 join_with_byte-map : {A : Type 0} (word : A → List ℕ) (first : List ℕ) (xs : List A) →
     join_with_byte 32 (first ∷ map word xs) ≡ first ++ flat_map (λ x. 32 ∷ word x) xs
 join_with_byte-map word first [] = search rules

@@ -106,11 +106,11 @@ abbrev pub why_word : TypeWhy → List ℕ
 why_word Missing = codes "Missing"
 why_word Unlike = codes "Unlike"
 
--- the line at which a block stands
+-- the line at which a block is
 abbrev pub line_word : Place → List ℕ
 line_word place = decimal place.line
 
--- the words behind `refused`
+-- the words after `refused`
 abbrev pub refusal_words : PlainRefusal → List (List ℕ)
 refusal_words TooLong = codes "F1" ∷ codes "TooLong" ∷ []
 refusal_words (Syntax line kind) =
@@ -151,6 +151,6 @@ refusal_words (LongDelays line total) =
 abbrev pub refusal_phrase : PlainRefusal → List ℕ
 refusal_phrase refusal = join_with_byte 32 (refusal_words refusal)
 
--- the line that tells the refusal, with its end
+-- the line that reports the refusal, with its end
 abbrev pub refusal_line : PlainRefusal → List ℕ
 refusal_line refusal = line_of_words (codes "refused" ∷ refusal_words refusal)

@@ -108,7 +108,7 @@ impl fmt::Display for TypeWhy {
     }
 }
 
-/// The lines of a cycle's blocks, each behind a space.
+/// The lines of a cycle's blocks, each after a space.
 #[derive(Drop)]
 struct CycleLines<'a>(&'a [Place]);
 
@@ -168,10 +168,10 @@ impl fmt::Display for Refusal {
     }
 }
 
-/// The line that tells a refusal, with its end.
+/// The line that reports a refusal, with its end.
 ///
 /// The words are `refused`, the refusal's number and name, and what it holds, as in
-/// `refused F13 Unconnected line 7 port enable`. The only fault is want of memory.
+/// `refused F13 Unconnected line 7 port enable`. The only error is out of memory.
 pub fn refusal_text(alloc: Global, r: &Refusal) -> Result<Vec<u8>, Memory>
     ensures { IfOk result (λ text. text.items ≡ refusal_line (plain_refusal r.now)) }
 {

@@ -54,7 +54,7 @@ fn first_one(found: Refusal, other: Refusal) -> Option<Refusal>
     }
 }
 
-/// Of two refusals of a file that may be there, the one that is told: that of the lesser number, of one number that of the
+/// Of two refusals of a file that may be there, the one that is reported: that of the lesser number, of one number that of the
 /// lesser line, and of one line `found`.
 pub fn first_refusal(found: Option<Refusal>, other: Option<Refusal>) -> Option<Refusal>
     ensures { as_plain result ≡ order.first_of (as_plain found) (as_plain other) }

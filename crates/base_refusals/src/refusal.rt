@@ -3,11 +3,11 @@ use base_core::{ParamName, Place, Port};
 /// What is wrong with a line of a model's text.
 #[derive(Clone, Copy, Debug, PartialEq, Eq, Drop)]
 pub enum SyntaxKind {
-    /// The line begins with nothing that a line may begin with, or goes on wrongly behind a name or a `}`.
+    /// The line begins with nothing that a line may begin with, or goes on wrongly after a name or a `}`.
     BadName,
     /// A string without its end on the line.
     OpenString,
-    /// Text behind the end of a string.
+    /// Text after the end of a string.
     AfterString,
     /// A value in brackets without its `]`.
     OpenBracket,
@@ -64,7 +64,7 @@ pub enum TypeWhy {
 pub enum Refusal {
     /// F1: the file has more than 16,777,216 bytes.
     TooLong,
-    /// F2: the text has a fault at this line.
+    /// F2: the text has an error at this line.
     Syntax {
         line: u32,
         kind: SyntaxKind,

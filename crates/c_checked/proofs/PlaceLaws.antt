@@ -1,4 +1,4 @@
--- Where something stands in a list, and in what is seen of it.
+-- Where something is in a list, and in what is seen of it.
 use Rattle.std.proofs.Common.{◌≡◌, refl, ◌∙◌, ap, ℕ, ◌+◌, Bool, cond, List, [], ◌∷◌, map, position, Some}
 use Rattle.std.specs.List.{position_from}
 use Rattle.std.proofs.lemmas.Iterator.Adapters.{position_from-zero}

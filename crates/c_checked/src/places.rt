@@ -8,14 +8,14 @@ ghost use Rattle.c_syntax.specs.Tree.{struct_fields};
 
 use c_syntax::{Field, Procedure, Program, StructDef};
 
-/// Where the procedure of a name stands.
+/// Where the procedure of a name is.
 fn position_of_procedure(procedures: &[Procedure], name: &[u8]) -> Option<usize>
     ensures { result ≡ position (λ p. bytes_eq p.name name.now) procedures.now }
 {
     procedures.iter().position(|p| p.name.bytes() == name)
 }
 
-/// Where the struct of a name stands.
+/// Where the struct of a name is.
 fn position_of_struct(structs: &[StructDef], name: &[u8]) -> Option<usize>
     ensures { result ≡ position (λ d. bytes_eq d.name name.now) structs.now }
 {

@@ -30,7 +30,7 @@ GivesMore view (Ok (None, rest)) step = step ≡ Ok (the_end rest)
 GivesMore view (Err (Refused fault)) step = step ≡ Err fault
 GivesMore view (Err Memory) step = ⊤
 
--- elements that are read behind others
+-- elements that are read after others
 abbrev pub behind : {A : Type 0} → List A → Parsed (List A) → Parsed (List A)
 behind xs (Ok read) = Ok (xs ++ read.0, read.1)
 behind xs (Err fault) = Err fault

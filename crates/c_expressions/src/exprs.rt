@@ -88,7 +88,7 @@ impl Reader {
         }
     }
 
-    // The further arguments of a pure function, behind others.
+    // The further arguments of a pure function, after others.
     #[cycle(expressions)]
     fn later_values<'a>(
         self,

@@ -22,7 +22,7 @@ impl Reader {
         Ok((index, rest))
     }
 
-    // A leaf behind the name of its own field; the line is that of the `s`.
+    // A leaf after the name of its own field; the line is that of the `s`.
     #[cycle(expressions)]
     fn tail<'a>(
         self,
@@ -53,7 +53,7 @@ impl Reader {
         }
     }
 
-    /// What is cast to an `int64_t`, behind the cast.
+    /// What is cast to an `int64_t`, after the cast.
     #[cycle(expressions)]
     pub(crate) fn leaf<'a>(
         self,

@@ -1,4 +1,4 @@
-// The small parts of a file: each takes the tokens that it reads and gives those behind them, or the first fault.
+// The small parts of a file: each takes the tokens that it reads and gives those after them, or the first error.
 ghost use Rattle.std.specs.Prelude.{◌≡◌};
 ghost use Rattle.c_grammar.specs.Parsing as parsing;
 ghost use Rattle.c_syntax.specs.declared.fault.CKind.TheVariants.{Syntax, Deep};
@@ -19,7 +19,7 @@ pub struct Limits {
     pub params: usize,
 }
 
-/// What each part of the reading needs: memory, the last line of the text, where a fault at its end stands, and the limits.
+/// What each part of the reading needs: memory, the last line of the text, where an error at its end is, and the limits.
 #[derive(Clone, Copy, Drop)]
 pub struct Reader {
     pub alloc: Global,
@@ -27,13 +27,13 @@ pub struct Reader {
     pub limits: Limits,
 }
 
-/// Something that was read, with the tokens behind it, or the first fault.
+/// Something that was read, with the tokens after it, or the first error.
 pub type Read<'a, T> = Result<(T, Tokens<'a>), CFault>;
 
-/// Something that was read, with the tokens behind it, or why it isn't: the first fault, or that memory ran out.
+/// Something that was read, with the tokens after it, or why it isn't: the first error, or that memory ran out.
 pub type Parse<'a, T> = Result<(T, Tokens<'a>), ReadCFault>;
 
-/// A fault of syntax on a line.
+/// An error of syntax on a line.
 pub fn syntax_on(line: u32) -> CFault
     ensures { result ≡ prefix.fault_at line Syntax }
 {
@@ -116,7 +116,7 @@ impl Reader {
         Ok((ty, rest))
     }
 
-    /// The field behind `s`.
+    /// The field after `s`.
     pub fn field_name<'a>(self, tokens: &Tokens<'a>) -> Read<'a, &'a [u8]>
         ensures { read_as (λ name. name.now) result
             ≡ parsing.parse_field_name self.last tokens.now }

@@ -6,7 +6,7 @@ use Rattle.c_grammar.specs.Grammar.{Spelling}
 use Rattle.c_grammar.specs.Prefix.{Need, token_fault}
 use Rattle.base_core.specs.Results.{◌>>=◌}
 
--- a claim of the result, or the fault that the needs tell
+-- a claim of the result, or the error that the needs report
 abbrev pub Given : {X : Type 0} → Option CFault → (X → Type 0) → Result X CFault → Type 0
 Given now claim (Ok x) = claim x
 Given now claim (Err fault) = now ≡ Some fault

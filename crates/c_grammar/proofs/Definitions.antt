@@ -24,13 +24,13 @@ use Rattle.c_grammar.proofs.Statements.{stmt-reads, block-reads}
 pub no_other : (text one other : List ℕ) → bytes_eq text one ≡ true → bytes_eq one other ≡ false → bytes_eq text other ≡ false
 no_other text one other e f = ap (λ x. bytes_eq x other) ((bytes_eq-Decides text one).0 e) ∙ f
 
--- needs behind needs
+-- needs after needs
 with_both : (reply : Reply) (before behind : List Need) → with_needs (with_needs reply before) behind ≡ with_needs reply (before ++ behind)
 with_both refuses before behind = refl
 with_both too_deep before behind = refl
 with_both (leaves needs) before behind = ap leaves (append_assoc needs before behind)
 
--- one token with a text, and then a parse that is told the token
+-- one token with a text, and then a parse that is given the token
 token-chain : {Y : Type 0} {now : Option CFault} {aim : Y → Type 0} (last : ℕ) (text : List ℕ) (more : List Need)
     (tokens : List Token) (go : Token × List Token → Result Y CFault) →
     now ≡ token_fault (text_need text ∷ more) last tokens →
@@ -156,7 +156,7 @@ module _ (last : ℕ) (limits : Limits) (exprs : limits.exprs ≡ expr_limit) (s
       (λ close k. record { is = record { none = rw close refl; goes = k } })
       refl
 
-  -- the length of an array, or nothing for a number, behind the name of a field of this type
+  -- the length of an array, or nothing for a number, after the name of a field of this type
   record ReadsLength (type : CType) (now : Option CFault) (more : List Need) (tokens : List Token)
       (x : WrittenKind × List Token) : Type 0 where
     typed : (start : List Token) → kind_spelling x.0 start ≡ word (type_text type) start
@@ -330,7 +330,7 @@ module _ (last : ℕ) (limits : Limits) (exprs : limits.exprs ≡ expr_limit) (s
         };
       }))))))))))
 
-  -- a procedure, behind what it begins with
+  -- a procedure, after what it begins with
   record ReadsProcedure (line : ℕ) (private : Bool) (now : Option CFault) (tokens : List Token) (x : WrittenProcedure
       × List Token) : Type 0 where
     spelled : (start : List Token) → at_line line (private_spelling private) start ≡ Some tokens → procedure_spelling x.0 start ≡ Some x.1

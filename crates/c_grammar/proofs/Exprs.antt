@@ -151,7 +151,7 @@ module _ (last d : ℕ) (operand : Want → List Token → Parsed Operand) (deep
       chain _ _ (word-reads last (codes "]") now more e.1 re.goes) (λ close rc.
       record { is = record { spelled = rw (opened, re.spelled, rc.spelled) refl; goes = rc.goes } }))
 
-  -- a leaf is spelled behind its cast
+  -- a leaf is spelled after its cast
   record ReadsLeaf (now : Option CFault) (more : List Need) (tokens : List Token) (x : WrittenExpr × List Token) : Type 0 where
     spelled : (start : List Token) → in_parens (word (codes "int64_t")) start ≡ Some tokens → expr_spelling x.0 start ≡ Some x.1
     goes : now ≡ token_fault more last x.1

@@ -8,10 +8,10 @@ use Rattle.c_grammar.specs.declared.openers.Comma.{Comma}
 use Rattle.c_grammar.specs.declared.openers.Comma.TheVariants.{Another as another, Closed as closed, Nothing as no_comma}
 use Rattle.c_grammar.proofs.Answering.{Answers, chain}
 
--- in these, `stack` says what is needed behind so many elements, `more` what is needed behind the list, and `listed` which
--- elements stand between two lists of tokens
+-- in these, `stack` says what is needed after so many elements, `more` what is needed after the list, and `listed` which
+-- elements are between two lists of tokens
 module _ {X : Type 0} (last : ℕ) (stack : ℕ → List Need) (more : List Need) (listed : List X → List Token → List Token → Type 0) where
-  -- an element that stands before others
+  -- an element that is before others
   pub record Further (now : Option CFault) (count : ℕ) (tokens : List Token) (x : X) (rest : List Token) : Type 0 where
     pub grows : (xs : List X) (end : List Token) → listed xs rest end → listed (x ∷ xs) tokens end
     pub shorter : length rest < length tokens

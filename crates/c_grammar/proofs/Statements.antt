@@ -90,7 +90,7 @@ module _ (last : ℕ) where
         (λ close k. record { is = record { none = rw close refl; goes = k } })
         refl
 
-    -- what is needed, and what is spelled, behind the field of a store or its index
+    -- what is needed, and what is spelled, after the field of a store or its index
     abbrev stored_needs : List Need → List Need
     stored_needs more = text_need (codes "=") ∷ text_need (codes "(") ∷ type_need ∷ text_need (codes ")") ∷ expr_need 1
         ∷ text_need (codes ";") ∷ more

@@ -168,7 +168,7 @@ module _ (last : ℕ) where
       chain _ _ (word-reads (codes ")") now more b.1 rb.goes) (λ c rc.
       record { is = record { spelled = rw (ra.spelled, rb.spelled, rc.spelled) refl; goes = rc.goes } })))
 
-  -- a field behind `s`
+  -- a field after `s`
   pub record ReadsField (start : List Token) (now : Option CFault) (more : List Need) (x : List ℕ × List Token) : Type 0 where
     pub middle : List Token
     pub arrow : word (codes "->") start ≡ Some middle

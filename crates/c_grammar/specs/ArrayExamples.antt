@@ -1,4 +1,4 @@
--- Texts with arrays, by hand: what an array, an item and a store in one may be, and the first fault
+-- Texts with arrays, by hand: what an array, an item and a store in one may be, and the first error
 -- of what they may not.
 use Rattle.std.specs.Prelude.{◌≡◌, ℕ, zero, suc, List, [], ◌∷◌, ◌++◌, Option, Some, None, codes, refl}
 use Rattle.c_syntax.specs.declared.fault.CKind.TheVariants.{Syntax, Deep}
@@ -20,7 +20,7 @@ text_of field statement = text_of_lines
     ∷ codes "}"
     ∷ [])
 
--- the first fault of a text with a field, of one with a statement, and of one with what is stored
+-- the first error of a text with a field, of one with a statement, and of one with what is stored
 abbrev pub field_fault : List ℕ → Option CFault
 field_fault field = first_token_fault (text_of field [])
 
@@ -191,7 +191,7 @@ pub store_index_101-deep : stmt_fault (store_in (nested_items 100 (codes "INT64_
     ≡ Some (fault_at 8 Deep)
 store_index_101-deep = refl
 
--- of two faults the one in the index stands before the one in the value
+-- of two errors the one in the index is before the one in the value
 pub index-before-value : stmt_fault (codes "s->a[" ++ nested_items 100 (codes "INT64_C(1)")
     ++ codes "] =" ++ 10 ∷ codes "INT64_C(1);")
     ≡ Some (fault_at 8 Deep)

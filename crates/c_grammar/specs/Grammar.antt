@@ -140,7 +140,7 @@ target_spelling (field_target field) =
 abbrev pub cast_spelling : CType → Spelling
 cast_spelling type = in_parens (word (type_text type))
 
--- the arguments of a call of a procedure, each with its cast behind a `,`
+-- the arguments of a call of a procedure, each with its cast after a `,`
 abbrev pub arguments_spelling : WrittenArguments → Spelling
 arguments_spelling no_arguments = nothing
 arguments_spelling (more_arguments cast e rest) =
@@ -172,7 +172,7 @@ abbrev mutual
 abbrev pub param_spelling : WrittenParam → Spelling
 param_spelling p = at_line p.line (word (type_text p.type)) ⨾ name_word p.name
 
--- parameters, each behind a `,`
+-- parameters, each after a `,`
 abbrev pub more_params_spelling : List WrittenParam → Spelling
 more_params_spelling [] = nothing
 more_params_spelling (p ∷ ps) = word (codes ",") ⨾ param_spelling p ⨾ more_params_spelling ps
@@ -181,7 +181,7 @@ more_params_spelling (p ∷ ps) = word (codes ",") ⨾ param_spelling p ⨾ more
 abbrev pub pure_param_spelling : WrittenPureParam → Spelling
 pure_param_spelling p = at_line p.line (word (codes "int64_t")) ⨾ name_word p.name
 
--- parameters of a pure function, each behind a `,`
+-- parameters of a pure function, each after a `,`
 abbrev pub more_pure_params_spelling : List WrittenPureParam → Spelling
 more_pure_params_spelling [] = nothing
 more_pure_params_spelling (p ∷ ps) =
@@ -206,7 +206,7 @@ kind_spelling (number_kind type) = word (type_text type)
 kind_spelling (array_kind type count) = word (type_text type)
 kind_spelling (struct_kind name) = word (codes "struct") ⨾ name_word name
 
--- what stands behind the field's name: the length of an array
+-- what comes after the field's name: the length of an array
 abbrev pub length_spelling : WrittenKind → Spelling
 length_spelling (number_kind type) = nothing
 length_spelling (array_kind type count) = in_brackets (literal_word count)

@@ -55,7 +55,7 @@ pub choice-fits : first_token_fault
     ≡ None
 choice-fits = refl
 
--- a comparison where a number must stand, and a number where a condition must
+-- a comparison where a number must be, and a number where a condition must
 pub compare-refused : first_token_fault (text_with (store_of (codes "(INT64_C(1) < INT64_C(2))")))
     ≡ Some (fault_at 5 Syntax)
 compare-refused = refl

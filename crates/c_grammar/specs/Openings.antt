@@ -53,7 +53,7 @@ abbrev mutual
   exprs_openings depth no_exprs = []
   exprs_openings depth (more_exprs e es) = expr_openings depth e ++ more_exprs_openings depth es
 
-  -- each behind a `,`
+  -- each after a `,`
   pub more_exprs_openings : ℕ → WrittenExprs → List Opening
   more_exprs_openings depth no_exprs = []
   more_exprs_openings depth (more_exprs e es) =
@@ -108,7 +108,7 @@ abbrev mutual
   stmts_openings depth no_stmts = []
   stmts_openings depth (more_stmts s ss) = stmt_openings depth s ++ stmts_openings depth ss
 
--- parameters from a number on, each behind a `,`; the `s` of a procedure isn't counted
+-- parameters from a number on, each after a `,`; the `s` of a procedure isn't counted
 abbrev pub more_params_openings : ℕ → List WrittenParam → List Opening
 more_params_openings number [] = []
 more_params_openings number (p ∷ ps) =

@@ -13,11 +13,11 @@ abbrev pub parse_behind : (has_header : Bool) → List ℕ → Result WrittenPro
 parse_behind true bytes = parse_file (last_line bytes) the_limits (tokens_of bytes)
 parse_behind false bytes = Err (fault_at 1 Syntax)
 
--- the program that is written in a text, or the first fault of the grammar
+-- the program that is written in a text, or the first error of the grammar
 abbrev pub parse_text : List ℕ → Result WrittenProgram CFault
 parse_text bytes = parse_behind (has_header bytes) bytes
 
--- what the parse gives is spelled and has no fault; the fault that it gives is the first
+-- what the parse gives is spelled and has no error; the error that it gives is the first
 pub record ParsingAgrees : Type 0 where
   pub read : (last : ℕ) (tokens : List Token) (w : WrittenProgram) →
       parse_file last the_limits tokens ≡ Ok w →

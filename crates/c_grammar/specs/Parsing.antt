@@ -1,4 +1,4 @@
--- The written program of tokens by recursive descent, or their first fault. What it is of the
+-- The written program of tokens by recursive descent, or their first error. What it is of the
 -- grammar is proved of it.
 use Rattle.std.specs.Prelude.{ℕ, zero, suc, ◌+◌, Bool, true, false, ◌&&◌, nat_le, if◌then◌else◌, List, [], ◌∷◌, length, Option, Some, None, Result, Ok, Err, codes, bytes_eq}
 use Rattle.base_core.specs.declared.base.Compare.{Compare}
@@ -37,7 +37,7 @@ use Rattle.c_grammar.specs.declared.openers.TargetOpener.TheVariants.{Own as own
 use Rattle.c_grammar.specs.declared.openers.Definition.{Definition}
 use Rattle.c_grammar.specs.declared.openers.Definition.TheVariants.{Static as static_definition, Struct as struct_definition, Void as void_definition, Nothing as no_definition}
 
--- something with the tokens behind it, or the first fault
+-- something with the tokens after it, or the first error
 abbrev pub Parsed : Type 0 → Type 0
 Parsed X = Result (X × List Token) CFault
 
@@ -83,13 +83,13 @@ compare_of_text text =
     else (if bytes_eq text (codes ">=") then Some Ge
     else (if bytes_eq text (codes ">") then Some Gt else None)))))
 
--- an expression may stand here
+-- an expression may be here
 abbrev pub wants_value : Want → Bool
 wants_value want_value = true
 wants_value want_test = false
 wants_value want_any = true
 
--- a condition may stand here
+-- a condition may be here
 abbrev pub wants_test : Want → Bool
 wants_test want_value = false
 wants_test want_test = true
@@ -107,7 +107,7 @@ opener_of want text =
     else (if wants_value want && is_name text then call_opener
     else (if bytes_eq text (codes "(") then paren_opener else no_opener))
 
--- what a token opens behind the `(` of an operand
+-- what a token opens after the `(` of an operand
 abbrev pub inside_of : Want → List ℕ → Inside
 inside_of want text =
     if wants_value want && bytes_eq text (codes "-") then minus_inside
@@ -115,24 +115,24 @@ inside_of want text =
     else (if wants_value want && bytes_eq text (codes "int64_t") then cast_inside
     else first_inside))
 
--- what a token begins behind the name of an own field
+-- what a token begins after the name of an own field
 abbrev pub tail_of : List ℕ → Tail
 tail_of text = if bytes_eq text (codes ".") then dot_tail
     else (if bytes_eq text (codes "[") then bracket_tail else no_tail)
 
--- an operator or a comparison behind an expression
+-- an operator or a comparison after an expression
 abbrev pub first_joint : Option BinOp → Option Compare → ValueJoint
 first_joint (Some op) how = op_joint op
 first_joint None (Some how) = compare_joint how
 first_joint None None = no_value_joint
 
--- what a token is behind an expression, where that may stand
+-- what a token is after an expression, where that may be
 abbrev pub value_joint : Want → List ℕ → ValueJoint
 value_joint want text =
     first_joint (if wants_value want then op_of_text text else None) (if wants_test want
     then compare_of_text text else None)
 
--- what a token is behind a condition, where that may stand
+-- what a token is after a condition, where that may be
 abbrev pub test_joint : Want → List ℕ → TestJoint
 test_joint want text =
     if wants_test want && bytes_eq text (codes "&&") then and_joint
@@ -174,7 +174,7 @@ abbrev pub after_step : {X : Type 0} → (ℕ → List Token → Parsed (List X)
 after_step later count (the_end rest) = Ok ([], rest)
 after_step later count (one_more x rest) = later (count + 1) rest >>= (λ xs. Ok (x ∷ xs.0, xs.1))
 
--- elements up to the end of their list, where `step` is told how many came before; `most` is more
+-- elements up to the end of their list, where `step` is given how many came before; `most` is more
 -- than there are
 abbrev pub many : {X : Type 0} → (ℕ → List Token → Result (Step X) CFault) → (most count : ℕ) →
     List Token → Parsed (List X)
@@ -200,7 +200,7 @@ abbrev pub arguments_from : List Argument → WrittenArguments
 arguments_from [] = no_arguments
 arguments_from (a ∷ rest) = more_arguments a.0 a.1 (arguments_from rest)
 
--- a fault of syntax at a token
+-- an error of syntax at a token
 abbrev pub syntax_at : {X : Type 0} → Token → Result X CFault
 syntax_at t = Err (fault_at t.line Syntax)
 
@@ -208,12 +208,12 @@ syntax_at t = Err (fault_at t.line Syntax)
 abbrev pub deep_at : {X : Type 0} → Token → Result X CFault
 deep_at t = Err (fault_at t.line Deep)
 
--- what an option holds, or a fault of syntax at a token
+-- what an option holds, or an error of syntax at a token
 abbrev pub or_syntax : {X : Type 0} → Token → Option X → Result X CFault
 or_syntax t (Some x) = Ok x
 or_syntax t None = syntax_at t
 
--- a fault of syntax at a token that fails a test, and one of depth at one that opens something
+-- an error of syntax at a token that fails a test, and one of depth at one that opens something
 -- beyond a limit
 abbrev pub or_syntax_unless : Token → Bool → Result (Unit {0}) CFault
 or_syntax_unless t true = Ok tt
@@ -229,7 +229,7 @@ abbrev pub first_text : List Token → List ℕ
 first_text [] = []
 first_text (t ∷ tokens) = t.text
 
--- `last` is the text's last line, where a fault at the end stands
+-- `last` is the text's last line, where an error at the end is
 module _ (last : ℕ) where
   -- the next token
   abbrev pub next : List Token → Parsed Token
@@ -272,7 +272,7 @@ module _ (last : ℕ) where
     close ← parse_word (codes ")") type.1
     Ok (type.0, close.1)
 
-  -- the field behind `s`
+  -- the field after `s`
   abbrev pub parse_field_name : List Token → Parsed (List ℕ)
   parse_field_name tokens = do
     arrow ← parse_word (codes "->") tokens
@@ -334,7 +334,7 @@ module _ (last : ℕ) where
       t ← next tokens
       parse_leaf_from t.0 t.1 (bytes_eq t.0.text (codes "s"))
 
-    -- a number behind `INT64_C`
+    -- a number after `INT64_C`
     abbrev pub parse_number : List Token → Parsed Operand
     parse_number tokens = do
       opened ← parse_word (codes "(") tokens
@@ -352,7 +352,7 @@ module _ (last : ℕ) where
     abbrev pub values_step : ℕ → List Token → Result (Step WrittenExpr) CFault
     values_step count tokens = next tokens >>= (λ t. values_step_by t.0 t.1 (comma_of t.0.text))
 
-    -- the arguments of a pure function behind its name
+    -- the arguments of a pure function after its name
     abbrev pub parse_values : Token → List Token → Parsed Operand
     parse_values t tokens = do
       opened ← parse_word (codes "(") tokens
@@ -379,12 +379,12 @@ module _ (last : ℕ) where
       Ok (value (pick c a.0 b.0), b.1)
     join_test c t tokens no_test_joint = syntax_at t
 
-    -- the rest of an operand behind its first
+    -- the rest of an operand after its first
     abbrev pub join : Want → Operand → Token × List Token → Parsed Operand
     join want (value a) t = join_value a t.0 t.1 (value_joint want t.0.text)
     join want (test c) t = join_test c t.0 t.1 (test_joint want t.0.text)
 
-    -- what stands behind a `(`, up to the `)`
+    -- what comes after a `(`, up to the `)`
     abbrev pub parse_inside : Want → List Token → Inside → Parsed Operand
     parse_inside want tokens minus_inside = do
       sign ← next tokens
@@ -487,13 +487,13 @@ module _ (last : ℕ) where
       stored ← parse_stored tokens
       Ok (assign t.line field stored.0.0 stored.0.1, stored.1)
 
-    -- a store behind its `s`
+    -- a store after its `s`
     abbrev pub parse_store : Token → List Token → Parsed WrittenStmt
     parse_store t tokens = do
       field ← parse_field_name tokens
       parse_store_in t field.0 field.1 (bytes_eq (first_text field.1) (codes "["))
 
-    -- a call behind the procedure's name
+    -- a call after the procedure's name
     abbrev pub parse_call : Token → List Token → Parsed WrittenStmt
     parse_call t tokens = do
       opened ← parse_word (codes "(") tokens
@@ -529,7 +529,7 @@ module _ (last : ℕ) where
         Ok (branch_else t.line c on_true on_false.0, on_false.1)
       parse_second t c on_true tokens false = Ok (branch t.line c on_true, tokens)
 
-      -- a choice behind its `if`
+      -- a choice after its `if`
       abbrev pub parse_if : Token → List Token → Parsed WrittenStmt
       parse_if t tokens = do
         c ← parse_cond limits.exprs tokens
@@ -557,7 +557,7 @@ module _ (last : ℕ) where
         next tokens
         >>= (λ t. parse_stmt_opened (parse_stmt levels) t.0 t.1 (stmt_opener_of t.0.text))
 
-    -- a parameter, behind so many
+    -- a parameter, after so many
     abbrev pub parse_pure_param : ℕ → List Token → Parsed WrittenPureParam
     parse_pure_param count tokens = do
       t ← next tokens
@@ -579,7 +579,7 @@ module _ (last : ℕ) where
     pure_params_step count tokens =
         next tokens >>= (λ t. pure_params_step_by count t.0 t.1 (comma_of t.0.text))
 
-    -- a parameter of a procedure, behind so many
+    -- a parameter of a procedure, after so many
     abbrev pub parse_param : ℕ → List Token → Parsed WrittenParam
     parse_param count tokens = do
       t ← next tokens
@@ -600,7 +600,7 @@ module _ (last : ℕ) where
     params_step count tokens =
         next tokens >>= (λ t. params_step_by count t.0 t.1 (comma_of t.0.text))
 
-    -- a pure function behind its `static`
+    -- a pure function after its `static`
     abbrev pub parse_pure : Token → List Token → Parsed WrittenPure
     parse_pure t tokens = do
       type ← parse_word (codes "int64_t") tokens
@@ -625,7 +625,7 @@ module _ (last : ℕ) where
         close.1,
       )
 
-    -- behind the name of a field of a type: an array where a length follows, else a number
+    -- after the name of a field of a type: an array where a length follows, else a number
     abbrev pub parse_length : CType → List Token → (has_length : Bool) → Parsed WrittenKind
     parse_length type tokens true = do
       opened ← next tokens
@@ -663,7 +663,7 @@ module _ (last : ℕ) where
     abbrev pub fields_step : ℕ → List Token → Result (Step WrittenField) CFault
     fields_step count tokens = fields_step_by tokens (bytes_eq (first_text tokens) (codes "}"))
 
-    -- a struct behind its `struct`
+    -- a struct after its `struct`
     abbrev pub parse_struct : Token → List Token → Parsed WrittenStruct
     parse_struct t tokens = do
       name ← parse_name tokens
@@ -673,7 +673,7 @@ module _ (last : ℕ) where
       end ← parse_word (codes ";") later.1
       Ok (record { line = t.line; name = name.0; fields = first.0 ∷ later.0 }, end.1)
 
-    -- a procedure behind its `void`, which may have a `static` before it
+    -- a procedure after its `void`, which may have a `static` before it
     abbrev pub parse_procedure_behind : (line : ℕ) → (private : Bool) → List Token →
         Parsed WrittenProcedure
     parse_procedure_behind line private tokens = do
@@ -742,7 +742,7 @@ module _ (last : ℕ) where
     procedures_step count (t ∷ tokens) =
         parse_procedure t tokens (definition_of t.text) >>= (λ p. Ok (one_more p.0 p.1))
 
-    -- a whole file behind its first line
+    -- a whole file after its first line
     abbrev pub parse_file : List Token → Result WrittenProgram CFault
     parse_file tokens = do
       pures ← many pures_step (suc (length tokens)) 0 tokens

@@ -34,7 +34,7 @@ is_comparison text =
 abbrev pub is_connective : List ℕ → Bool
 is_connective text = is_one_of (codes "&&" ∷ codes "||" ∷ []) text
 
--- the value of digits, behind those that were read
+-- the value of digits, after those that were read
 abbrev pub digits_value : ℕ → List ℕ → ℕ
 digits_value n [] = n
 digits_value n (d ∷ ds) = digits_value (10 * n + (d - 48)) ds
@@ -55,7 +55,7 @@ pub data Role : Type 0 where
   as_kind : (kind : Kind) → Role
   as_first : (outer : Role) → Role
 
--- something of this kind may stand in this role
+-- something of this kind may be in this role
 abbrev pub allows : Role → Kind → Bool
 allows (as_kind expression) expression = true
 allows (as_kind expression) condition = false
@@ -95,7 +95,7 @@ pub data Need : Type 0 where
   params_need : (count : ℕ) → Need
   field_need : Need
   fields_need : Need
-  -- pure functions behind so many, or the first struct
+  -- pure functions after so many, or the first struct
   pures_need : (count : ℕ) → Need
   -- further structs, or the first procedure
   structs_need : Need
@@ -109,7 +109,7 @@ pub data Reply : Type 0 where
   too_deep : Reply
   leaves : (needs : List Need) → Reply
 
--- the needs that are left, with further ones behind them
+-- the needs that are left, with further ones after them
 abbrev pub with_needs : Reply → List Need → Reply
 with_needs refuses more = refuses
 with_needs too_deep more = too_deep
@@ -119,7 +119,7 @@ with_needs (leaves needs) more = leaves (needs ++ more)
 abbrev pub only_if : Bool → Reply → Reply
 only_if test reply = if test then reply else refuses
 
--- the same, but for what opens beyond a limit
+-- the same, except for what opens beyond a limit
 abbrev pub within_limit : (depth limit : ℕ) → Reply → Reply
 within_limit depth limit refuses = refuses
 within_limit depth limit too_deep = too_deep
@@ -130,7 +130,7 @@ abbrev pub text_needs : List (List ℕ) → List Need
 text_needs [] = []
 text_needs (text ∷ texts) = text_need text ∷ text_needs texts
 
--- what is left behind an expression or condition that has ended, whose kind is now known
+-- what is left after an expression or condition that has ended, whose kind is now known
 abbrev pub follow : Kind → Role → (depth : ℕ) → List Need
 follow kind (as_kind same) depth = []
 follow kind (as_first outer) depth = joint_need kind outer depth ∷ []
@@ -165,7 +165,7 @@ operand_reply role depth text =
     ∷ (bytes_eq text (codes "("), leaves (inside_need role depth ∷ []))
     ∷ []))
 
--- a token behind the `(` of an operand
+-- a token after the `(` of an operand
 abbrev pub inside_reply : Role → ℕ → List ℕ → Reply
 inside_reply role depth text =
     first_reply
@@ -185,7 +185,7 @@ inside_reply role depth text =
     ∷ (true, operand_reply (as_first role) (depth + 1) text)
     ∷ [])
 
--- a token behind a first operand; `depth` is that of the operands
+-- a token after a first operand; `depth` is that of the operands
 abbrev pub joint_reply : Kind → Role → ℕ → List ℕ → Reply
 joint_reply expression role depth text =
     first_reply
@@ -211,11 +211,11 @@ joint_reply condition role depth text =
     )
     ∷ [])
 
--- an index that opens at a depth, behind its `[`
+-- an index that opens at a depth, after its `[`
 abbrev pub index_needs : ℕ → List Need
 index_needs depth = expr_need depth ∷ text_need (codes "]") ∷ []
 
--- the length of an array, behind its `[`
+-- the length of an array, after its `[`
 abbrev pub length_needs : List Need
 length_needs = literal_need ∷ text_need (codes "]") ∷ []
 
@@ -248,18 +248,18 @@ field_reply text =
     ∷ (bytes_eq text (codes "struct"), leaves (name_need ∷ name_need ∷ text_need (codes ";") ∷ []))
     ∷ [])
 
--- what is left of a struct behind `struct`, and of a procedure behind `void`
+-- what is left of a struct after `struct`, and of a procedure after `void`
 abbrev pub struct_needs : List Need
 struct_needs = name_need ∷ text_need (codes "{") ∷ field_need ∷ fields_need ∷ text_need (codes ";")
     ∷ structs_need ∷ []
 
--- what is left of a procedure behind `void`
+-- what is left of a procedure after `void`
 abbrev pub procedure_needs : List Need
 procedure_needs = name_need ∷ text_need (codes "(") ∷ text_need (codes "struct") ∷ name_need
     ∷ text_need (codes "*") ∷ text_need (codes "s") ∷ params_need 0 ∷ text_need (codes "{")
     ∷ stmts_need 1 ∷ procedures_need ∷ []
 
--- what is left of a pure function behind `static`, which is the one of this number
+-- what is left of a pure function after `static`, which is the one of this number
 abbrev pub pure_needs : ℕ → List Need
 pure_needs number = text_need (codes "int64_t") ∷ name_need ∷ text_need (codes "(")
     ∷ pure_param_need 1 ∷ pure_params_need 1 ∷ text_need (codes "{") ∷ text_need (codes "return")
@@ -363,22 +363,22 @@ abbrev pub may_end : List Need → Bool
 may_end (procedures_need ∷ []) = true
 may_end needs = false
 
--- a fault of a kind at a line
+-- an error of a kind at a line
 abbrev pub fault_at : ℕ → CKind → CFault
 fault_at l k = record { line = l; kind = k }
 
--- goes on with the needs that are left, or tells the fault at this line
+-- goes on with the needs that are left, or reports the error at this line
 abbrev pub on_reply : Reply → ℕ → (List Need → Option CFault) → Option CFault
 on_reply refuses line go = Some (fault_at line Syntax)
 on_reply too_deep line go = Some (fault_at line Deep)
 on_reply (leaves needs) line go = go needs
 
--- the first fault of syntax or depth in these tokens; `last` is the text's last line
+-- the first error of syntax or depth in these tokens; `last` is the text's last line
 abbrev pub token_fault : List Need → ℕ → List Token → Option CFault
 token_fault needs last [] = if may_end needs then None else Some (fault_at last Syntax)
 token_fault needs last (t ∷ tokens) =
     on_reply (step_needs needs t.text) t.line (λ left. token_fault left last tokens)
 
--- what a whole file has to be, behind its first line
+-- what a whole file has to be, after its first line
 abbrev pub file_needs : List Need
 file_needs = pures_need 0 ∷ []

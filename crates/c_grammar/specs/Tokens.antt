@@ -63,11 +63,11 @@ piece_of digit_class b bs = token (b ∷ take_while is_ascii_digit bs)
 piece_of sign_class b [] = token (b ∷ [])
 piece_of sign_class b (c ∷ cs) = sign_piece ((b == 47) && (c == 42)) (is_double_sign b c) b c cs
 
--- the number of the line behind a byte
+-- the number of the line after a byte
 abbrev pub line_after : ℕ → ℕ → ℕ
 line_after b line = if b == 10 then line + 1 else line
 
--- the tokens that begin with a piece, where `rest n` gives those behind the next n bytes
+-- the tokens that begin with a piece, where `rest n` gives those after the next n bytes
 abbrev pub piece_tokens : Piece → ℕ → (ℕ → List Token) → List Token
 piece_tokens blank line rest = rest 0
 piece_tokens (comment more) line rest = rest more
@@ -89,13 +89,13 @@ is_line_end b = b == 10
 abbrev pub header_line : List ℕ
 header_line = codes "#include <stdint.h>"
 
--- the first line is the include line, but for a byte 13 at its end
+-- the first line is the include line, except for a byte 13 at its end
 abbrev pub has_header : List ℕ → Bool
 has_header bytes =
     bytes_eq (before_first is_line_end bytes) header_line
     || bytes_eq (before_first is_line_end bytes) (header_line ++ 13 ∷ [])
 
--- the tokens behind the first line
+-- the tokens after the first line
 abbrev pub tokens_of : List ℕ → List Token
 tokens_of bytes = tokens_from 0 2 (after_first is_line_end bytes)
 

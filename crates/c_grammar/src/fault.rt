@@ -8,7 +8,7 @@ use std::alloc::{AllocError, AllocFailed};
 /// Why a text is not read.
 #[derive(Clone, Copy, Debug, PartialEq, Eq, Drop)]
 pub enum ReadCFault {
-    /// The text has no reading: its first fault.
+    /// The text has no reading: its first error.
     Refused(CFault),
     /// Memory ran out.
     Memory,

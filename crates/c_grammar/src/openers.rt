@@ -1,4 +1,4 @@
-// What a token opens, where something may stand.
+// What a token opens, where something may be.
 ghost use Rattle.std.specs.Prelude.{◌≡◌};
 ghost use Rattle.c_grammar.specs.Parsing as parsing;
 
@@ -17,7 +17,7 @@ pub enum Want {
 }
 
 impl Want {
-    /// An expression may stand here.
+    /// An expression may be here.
     pub fn takes_value(self) -> bool
         ensures { result ≡ parsing.wants_value self }
     {
@@ -27,7 +27,7 @@ impl Want {
         }
     }
 
-    /// A condition may stand here.
+    /// A condition may be here.
     pub fn takes_test(self) -> bool
         ensures { result ≡ parsing.wants_test self }
     {
@@ -51,31 +51,31 @@ pub enum Opener {
     Nothing,
 }
 
-/// What a token behind the `(` of an operand begins.
+/// What a token after the `(` of an operand begins.
 #[derive(Clone, Copy, Drop)]
 pub enum Inside {
     /// A negative expression.
     Minus,
     /// A negated condition.
     Not,
-    /// A cast, and what is read behind it.
+    /// A cast, and what is read after it.
     Cast,
     /// The first of two or three operands.
     First,
 }
 
-/// What a token behind the name of an own field begins.
+/// What a token after the name of an own field begins.
 #[derive(Clone, Copy, Drop)]
 pub enum Tail {
-    /// A field of that field, behind a `.`.
+    /// A field of that field, after a `.`.
     Dot,
-    /// The index of an item of that array, behind a `[`.
+    /// The index of an item of that array, after a `[`.
     Bracket,
     /// Nothing: the field itself is meant.
     Nothing,
 }
 
-/// What a token behind an expression joins it to.
+/// What a token after an expression joins it to.
 #[derive(Clone, Copy, Drop)]
 pub enum ValueJoint {
     /// A second expression, by an operator.
@@ -86,7 +86,7 @@ pub enum ValueJoint {
     Nothing,
 }
 
-/// What a token behind a condition that is the first operand joins it to.
+/// What a token after a condition that is the first operand joins it to.
 #[derive(Clone, Copy, Drop)]
 pub enum TestJoint {
     /// A second condition, both of which hold.
@@ -99,7 +99,7 @@ pub enum TestJoint {
     Nothing,
 }
 
-/// What a token opens where a statement may stand.
+/// What a token opens where a statement may be.
 #[derive(Clone, Copy, Drop)]
 pub enum StmtOpener {
     /// A store in a field.
@@ -112,7 +112,7 @@ pub enum StmtOpener {
     Nothing,
 }
 
-/// What stands between the elements of a list in parentheses, and at its end.
+/// What is between the elements of a list in parentheses, and at its end.
 #[derive(Clone, Copy, Drop)]
 pub enum Comma {
     /// A comma: one more element follows.
@@ -128,7 +128,7 @@ pub enum Comma {
 pub enum TargetOpener {
     /// The own struct, `s`.
     Own,
-    /// A field of it, behind `&`.
+    /// A field of it, after `&`.
     Field,
     /// No target.
     Nothing,

@@ -129,7 +129,7 @@ pub struct WrittenParam<'a> {
     pub line: u32,
     /// Its type.
     pub ty: CType,
-    /// Its name, as it stands.
+    /// Its name, as written.
     pub name: &'a [u8],
 }
 
@@ -138,7 +138,7 @@ pub struct WrittenParam<'a> {
 pub struct WrittenPureParam<'a> {
     /// The line where it begins, from 1.
     pub line: u32,
-    /// Its name, as it stands.
+    /// Its name, as written.
     pub name: &'a [u8],
 }
 
@@ -147,7 +147,7 @@ pub struct WrittenPureParam<'a> {
 pub struct WrittenPure<'a> {
     /// The line where it begins, from 1.
     pub line: u32,
-    /// Its name, as it stands.
+    /// Its name, as written.
     pub name: &'a [u8],
     /// Its parameters, in order.
     pub params: Vec<WrittenPureParam<'a>>,
@@ -162,7 +162,7 @@ pub struct WrittenPure<'a> {
 pub enum WrittenKind<'a> {
     /// A number of a type.
     Number(CType),
-    /// An array of numbers of a type, with its length as it stands.
+    /// An array of numbers of a type, with its length as written.
     Array(CType, Number),
     /// A struct, by its name.
     Struct(&'a [u8]),
@@ -175,7 +175,7 @@ pub struct WrittenField<'a> {
     pub line: u32,
     /// What it is declared as.
     pub kind: WrittenKind<'a>,
-    /// Its name, as it stands.
+    /// Its name, as written.
     pub name: &'a [u8],
 }
 
@@ -184,7 +184,7 @@ pub struct WrittenField<'a> {
 pub struct WrittenStruct<'a> {
     /// The line where it begins, from 1.
     pub line: u32,
-    /// Its name, as it stands.
+    /// Its name, as written.
     pub name: &'a [u8],
     /// Its fields, in order.
     pub fields: Vec<WrittenField<'a>>,
@@ -197,11 +197,11 @@ pub struct WrittenProcedure<'a> {
     pub line: u32,
     /// Whether it is `static`.
     pub private: bool,
-    /// Its name, as it stands.
+    /// Its name, as written.
     pub name: &'a [u8],
-    /// The name of its struct, as it stands.
+    /// The name of its struct, as written.
     pub of: &'a [u8],
-    /// Its parameters behind the struct, in order.
+    /// Its parameters after the struct, in order.
     pub params: Vec<WrittenParam<'a>>,
     /// Its statements, in order.
     pub body: Vec<WrittenStmt<'a>>,

@@ -263,7 +263,7 @@ plain_reads v none = λ i. record { leaf = fun_ext (λ leaf. at_leaf leaf) i; ar
     at_leaf (Own f) = ap (λ xs. number_in v.numbers.now (slice_get xs f)) none
     at_leaf (Child f g) = ap (λ xs. number_under v.layouts.now v.numbers.now (slice_get xs f) g) none
 
--- a body behind its step
+-- a body after its step
 pub function_gives : (fs : List Function) (p : PureTree) (values : List ℤ) (steps n : ℕ) (leaf : Reads)
     (answer : Answer ℤ) → leaf ≡ reads values no_cells → gives (tt {0}) n ≡ take_step p.line steps (gives (tt {0})) →
     answer ≡ eval fs leaf p.line p.body n → answer ≡ function_of fs p values steps

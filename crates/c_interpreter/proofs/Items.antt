@@ -10,7 +10,7 @@ use Rattle.c_interpreter.specs.Reads.{place_in}
 use Rattle.c_interpreter.specs.States.{filled_items}
 use Rattle.c_interpreter.proofs.Evaluations.{and_then_gives, and_then_sticks}
 
--- ---- numbers put over an array's own
+-- ---- numbers written over an array's own
 pub items_length : (zs vs : List ℤ) → length (filled_items zs vs) ≡ length zs
 items_length [] vs = refl
 items_length (z ∷ zs) [] = refl
@@ -98,7 +98,7 @@ item_sticks line count at steps xs numbers index place same found =
     sym (and_then_sticks (index_in line xs index steps) place (λ i n. gives (int_at xs i) n) (found
     ∙ sym (index_is line count xs index steps many)))
 
--- an index that is looked at, behind its own evaluation
+-- an index that is looked at, after its own evaluation
 pub index_gives : (line count place steps : ℕ) (xs : List ℤ) (a : Answer ℤ) (index : ℤ) → length xs ≡ count →
     gives index steps ≡ a → gives place steps ≡ place_in line count index steps →
     gives place steps ≡ and_then a (index_in line xs)

@@ -62,7 +62,7 @@ pub layouts_more : (ss : List StructTree) (k : ℕ) (s : StructTree) → k < len
     layouts_of [] (take (k + 1) ss) ≡ layouts_of [] (take k ss) ++ layout_of (layouts_of [] (take k ss)) s.fields ∷ []
 layouts_more ss k s h there = ap (layouts_of []) (take_one ss k s h there) ∙ layouts-append [] (take k ss) s
 
--- ---- what stands at a position of a growing list
+-- ---- what is at a position of a growing list
 zeros-before : (earlier : List Cells) (ss : List StructTree) (k : ℕ) → k < length earlier →
     slice_index_or (zero_instances earlier ss) k no_cells ≡ slice_index_or earlier k no_cells
 zeros-before earlier [] k h = refl
@@ -157,7 +157,7 @@ layouts-at earlier (t ∷ ss) (suc j) s lawful there =
     ≡ slots_from (layouts_of (earlier ++ z ∷ []) ss) 0 s.fields) e
     (layouts-at (earlier ++ z ∷ []) ss j s (subst (λ m. AreStructs m ss) (sym n) lawful.1) there)
 
--- nothing stands past the end
+-- nothing is past the end
 zeros-length : (earlier : List Cells) (ss : List StructTree) → length (zero_instances earlier ss) ≡ length earlier + length ss
 zeros-length earlier [] = omega arith
 zeros-length earlier (s ∷ ss) =

@@ -135,7 +135,7 @@ module _ (counts : List ℕ) (all : List (List StructInstance)) (counted : (k : 
         length-append (kind_instances all f x.kind) (field_instances all (f + 1) xs),
       )
 
-  -- the instance in a field, behind those of the fields before it
+  -- the instance in a field, after those of the fields before it
   pub held : (f : ℕ) (fields : List FieldTree) (position : ℕ) (x : FieldTree) (k left : ℕ) →
       slice_get fields position ≡ Some x → x.kind ≡ kind.Struct k → left < length (slice_index_or all k []) →
       slice_get (field_instances all f fields) (fields_count counts (take position fields) + left)

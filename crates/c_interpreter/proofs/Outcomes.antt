@@ -334,7 +334,7 @@ entry_count k name b same =
     by_test true = refl
     by_test false = refl
 
--- a call of a procedure: the body, behind the call's entry
+-- a call of a procedure: the body, after the call's entry
 pub procedure_gives : (p : ProgramTree) (k level calls now steps : ℕ) (q : ProcedureTree) (b : Bool) (vs : List ℤ)
     (cells : Cells) (r : Seen) → k < level → slice_get p.procedures k ≡ Some q → b ≡ is_interface q.name →
     now ≡ calls + (if b then 1 else 0) → r ≡ seen now (run_stmts (scope_at p k q.of vs) q.body cells steps) →

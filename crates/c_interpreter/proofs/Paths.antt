@@ -34,7 +34,7 @@ put_length part t rest fits =
     let b : length (drop (rest + length t) part) + (rest + length t) ≡ length part = length_dropped (rest + length t) part fits in
     omega (arith, a, b, length-append (take rest part) (t ++ drop (rest + length t) part), length-append t (drop (rest + length t) part))
 
--- numbers put into a part, and the part put back
+-- numbers written into a part, and the part written back
 put_nested : (s t : List ℤ) (from rest size m : ℕ) → size ≡ rest + length t + m →
     take (from + rest) s ++ (t ++ drop (from + rest + length t) s)
     ≡ take from s ++ ((take rest (take size (drop from s)) ++ (t ++ drop (rest + length t) (take size (drop from s))))

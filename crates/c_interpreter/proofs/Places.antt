@@ -1,4 +1,4 @@
--- The numbers of an instance, and where its fields stand in them.
+-- The numbers of an instance, and where its fields are in them.
 use Rattle.std.proofs.Common.{◌≡◌, refl, sym, ◌∙◌, ap, ℕ, zero, suc, ◌+◌, ◌-◌, ◌<◌, ◌≤◌, ℤ, pos, Bool, List, [], ◌∷◌, ◌++◌, length, arith, take, drop, replicate, slice_get, slice_index_or, Option, Some, None, append_assoc, length-append, subst, zero-add, add-zero}
 use Rattle.std.proofs.Math.ListN.{set}
 use Rattle.std.proofs.lemmas.List.{length-replicate}
@@ -83,7 +83,7 @@ drop_of_more (suc n) zero [] = simp unary_clauses
 drop_of_more (suc n) (suc m) [] = simp unary_clauses
 drop_of_more (suc n) m (v ∷ vs) = let e : suc n + m ≡ suc (n + m) = omega arith in rw e (drop_of_more n m vs)
 
--- ---- what stands past an instance's numbers
+-- ---- what is past an instance's numbers
 mutual
   pub filled_cell-take : (c : Cell) (vs : List ℤ) → filled_cell c (take (length (numbers_in c)) vs) ≡ filled_cell c vs
   filled_cell-take (number old) [] = refl
@@ -311,7 +311,7 @@ module _ (structs : List StructTree) (layouts : List StructLayout) (zeros : List
   slot_there of f x there = ap (λ t. slice_get t f) (laid.slots_are of)
       ∙ slot_at layouts zeros laid.sized 0 (struct_fields structs of) f x there
 
-  -- numbers put into a field
+  -- numbers written into a field
   put_there : (of f : ℕ) (x : FieldTree) (s t : List ℤ) → slice_get (struct_fields structs of) f ≡ Some x →
       length t ≡ kind_size layouts x.kind → length s ≡ (layout_at layouts of).size →
       set_cell (filled (slice_index_or zeros of no_cells) s) f (filled_cell (zero_cell zeros x.kind) t)
@@ -528,7 +528,7 @@ part_length s at size within =
     let left : length (drop at s) + at ≡ length s = length_dropped at s (omega arith) in
     rw n (length_taken size (drop at s) (omega arith))
 
--- a slice put back into its vector
+-- a slice written back into its vector
 pub whole_again : (old new : List ℤ) (count : ℕ) → length new ≡ length old → count ≡ length old →
     take count (new ++ drop (length new) old) ≡ new
 whole_again old new count same all = take_front count new (drop (length new) old) (same ∙ sym all)

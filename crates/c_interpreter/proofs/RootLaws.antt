@@ -249,7 +249,7 @@ start_same p layouts logged root start step n outputs tables =
     ap (call_from_outside p start [] []) (filled_zeros p.structs root n)
     ∙ (λ i. call_from_outside p (tables.start_is i) [] [] (zero_at p (tables.root_is i)))
 
--- a machine behind its start
+-- a machine after its start
 pub started : (program : CheckedProgram) (t : Tables) (n : ℕ) (now : List ℤ) (cost : Cost) →
     AreTables (program_tree program.program) t.layouts.items t.logged.items t.root t.start t.step t.outputs.items →
     ran (filled (zero_at (program_tree program.program) t.root) now) cost.steps cost.calls ≡ seen 0
@@ -282,7 +282,7 @@ start_stuck program t n now at tables run =
           (call_from_outside p t.start [] [] (filled (zero_at p t.root) (replicate n (pos 0)))) run,
     )
 
--- the same, by what the code's calls told
+-- the same, by what the code's calls said
 pub tick_left : (program : CheckedProgram) (t : Tables) (row n now outs : List ℤ) (cost : Cost) (q : Program)
     (old new : List ℤ) (layouts : List StructLayout) (slots : List Slot) (fields : List ℕ) →
     AreTables (program_tree program.program) t.layouts.items t.logged.items t.root t.start t.step t.outputs.items →

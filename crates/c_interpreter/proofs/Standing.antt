@@ -1,4 +1,4 @@
--- Where an instance stands among those of the root.
+-- Where an instance is among those of the root.
 use Rattle.std.proofs.Common.{◌≡◌, refl, sym, ◌∙◌, ap, ℕ, zero, suc, ◌+◌, ◌-◌, ◌<◌, ◌≤◌, ℤ, List, [], ◌∷◌, ◌++◌, length, arith, take, drop, slice_get, slice_index_or, Option, Some, None, append_assoc, subst, add-zero, zero-add, bytes_eq, Bool, true, false, cond}
 use Rattle.std.specs.Prelude.{option_map, option_and_then}
 use Rattle.std.specs.List.{position_from}
@@ -96,7 +96,7 @@ module _ (p : ProgramTree) (layouts : List StructLayout) (counts : List ℕ) (nu
   whole_count k known = let e = ap (λ (xs : List StructInstance). length xs) (numbered.first k known) in
       omega (arith, e, fields_counted counts (instances_of p) numbered.counted 0 (struct_fields p.structs k))
 
-  -- the instance in a field of one that stands there
+  -- the instance in a field of one that is there
   pub place_more : (root number struct at position from size inner : ℕ) (x : FieldTree) →
       IsPlace p layouts root number struct at → slice_get (struct_fields p.structs struct) position ≡ Some x →
       x.kind ≡ kind.Struct inner →
@@ -188,7 +188,7 @@ module _ (p : ProgramTree) (layouts : List StructLayout) (counts : List ℕ) (nu
           omega arith
 
   -- ---- steps
-  -- the field in which an instance stands
+  -- the field in which an instance is
   pub held_slot : (laid : AreLaidOut p.structs layouts (zeros_of p)) (of position left number : ℕ) →
       IsHeld counts (struct_fields p.structs of) position left number →
       (from size inner : ℕ) × (slice_get (layout_at layouts of).slots position ≡ Some (Instance from size inner))
@@ -288,7 +288,7 @@ module _ (p : ProgramTree) (layouts : List StructLayout) (counts : List ℕ) (nu
       length (instances_in p root) ≤ instance → None ≡ option_and_then go (slice_get (instances_in p root) instance)
   no_instance root instance go past = ap (option_and_then go) (sym (slice_get_past (instances_in p root) instance past))
 
-  -- what is asked of an instance that stands there
+  -- what is asked of an instance that is there
   asked : {A : Type 0} (root number struct at : ℕ) (place : IsPlace p layouts root number struct at)
       (go : StructInstance → Option A) →
       option_and_then go (slice_get (instances_in p root) number) ≡ go (record { path = place.path; struct = struct })

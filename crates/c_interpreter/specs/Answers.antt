@@ -16,7 +16,7 @@ judged Holds steps = gives true steps
 judged Fails steps = gives false steps
 judged (Halts at) steps = sticks at
 
--- a result that was put into a slice
+-- a result that was written into a slice
 abbrev pub put_answer : {A B : Type 0} → Result A Stuck → B → ℕ → Answer B
 put_answer (Ok done) value steps = gives value steps
 put_answer (Err at) value steps = sticks at

@@ -26,7 +26,7 @@ size_in f = (layout_at f.code.layouts f.of).size
 abbrev pub slot_in : Frame → ℕ → Option Slot
 slot_in f field = slice_get (layout_at f.code.layouts f.of).slots field
 
--- a statement may stand in it
+-- a statement may be in it
 abbrev pub IsSoundIn : Frame → StmtTree → Type 0
 IsSoundIn f s = IsSoundStmt (tree_in f) f.level f.of s
 

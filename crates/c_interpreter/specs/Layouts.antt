@@ -21,7 +21,7 @@ slot_of earlier at (kind.Number type) = Number at type
 slot_of earlier at (kind.Array type count) = Array at count type
 slot_of earlier at (kind.Struct k) = Instance at (layout_at earlier k).size k
 
--- fields, one behind the other
+-- fields, one after the other
 abbrev pub slots_from : List StructLayout → ℕ → List FieldTree → List Slot
 slots_from earlier at [] = []
 slots_from earlier at (f ∷ fs) =

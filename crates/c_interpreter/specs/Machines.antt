@@ -16,14 +16,14 @@ use Rattle.c_interpreter.specs.States.{MachineState, tree_of, fields_of}
 use Rattle.c_interpreter.specs.declared.machine.NewFault.{NewFault}
 use Rattle.c_interpreter.specs.declared.machine.NewFault.TheVariants as fault
 
--- a machine of the program behind its `root_start`
+-- a machine of the program after its `root_start`
 pub record IsStarted (program : CheckedProgram) (m : MachineState) : Type 0 where
   pub same : m.program ≡ program
   pub after : After
   pub run : start_run (tree_of m) ≡ done after
   pub cells : fields_of m ≡ after.cells
 
--- `root_start` is stuck there; of want of memory nothing is said
+-- `root_start` is stuck there; of memory that runs out nothing is said
 abbrev pub IsStartFault : CheckedProgram → NewFault → Type 0
 IsStartFault program (fault.Stuck at) =
     (cells : Cells) × (start_run (program_tree program.program) ≡ stuck at cells)

@@ -1,4 +1,4 @@
--- How many instances stand in each struct's, and where the numbers of each stand.
+-- How many instances are in each struct's, and where the numbers of each are.
 use Rattle.std.specs.Prelude.{◌≡◌, ℕ, suc, ◌+◌, ◌<◌, ◌^◌, ℤ, List, [], ◌∷◌, ◌++◌, length, take, option_map, option_and_then, Option, Some, None, slice_get, slice_index_or}
 use Rattle.c_syntax.specs.declared.program.FieldKind.{FieldKind}
 use Rattle.c_syntax.specs.declared.program.FieldKind.TheVariants as kind
@@ -15,13 +15,13 @@ use Rattle.c_interpreter.specs.Sound.{zero_at, zeros_of, IsProcedureOf}
 use Rattle.c_interpreter.specs.States.{filled}
 use Rattle.c_interpreter.specs.Instances.{StructInstance, whole_instance, field_instances, struct_instances}
 
--- how many instances stand in a field
+-- how many instances are in a field
 abbrev pub kind_count : List ℕ → FieldKind → ℕ
 kind_count counts (kind.Number type) = 0
 kind_count counts (kind.Array type count) = 0
 kind_count counts (kind.Struct k) = slice_index_or counts k 0
 
--- how many stand in fields
+-- how many are in fields
 abbrev pub fields_count : List ℕ → List FieldTree → ℕ
 fields_count counts [] = 0
 fields_count counts (f ∷ fs) = kind_count counts f.kind + fields_count counts fs
@@ -69,7 +69,7 @@ IsReached layouts of (f ∷ path) struct at =
 abbrev pub instance_below : List ℕ → StructInstance → StructInstance
 instance_below path i = record { path = path ++ i.path; struct = i.struct }
 
--- the instance with a number has this struct, and its numbers begin there; behind it stand those
+-- the instance with a number has this struct, and its numbers begin there; after it come those
 -- inside it
 pub record IsPlace (p : ProgramTree) (layouts : List StructLayout)
     (root number struct at : ℕ) : Type 0 where
@@ -120,7 +120,7 @@ pub record IsOnWay (p : ProgramTree) (layouts : List StructLayout)
   pub place : IsPlace p layouts root base struct at
   pub inside : left < length (instances_in p struct)
 
--- how many instances stand before the one that a field at a position holds, where it holds one
+-- how many instances are before the one that a field at a position holds, where it holds one
 abbrev pub kind_before : ℕ → FieldKind → Option ℕ
 kind_before before (kind.Number type) = None
 kind_before before (kind.Array type count) = None

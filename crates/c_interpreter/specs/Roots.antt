@@ -44,7 +44,7 @@ pub record HasTables (c : CheckedProgram) (t : Tables) : Type 0 where
   pub sized : (layout_at t.layouts.items t.root).size < 2 ^ 64
 
 -- what a machine keeps: a program's tables, as many numbers as its root has, and as many outputs as
--- it tells
+-- it gives
 pub record IsMachine (c : CheckedProgram) (t : Tables) (numbers : List ℤ) : Type 0 where
   pub tables : AreTables (program_tree c.program) t.layouts.items t.logged.items t.root t.start
       t.step t.outputs.items

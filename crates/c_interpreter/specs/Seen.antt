@@ -11,7 +11,7 @@ pub data Seen : Type 0 where
   ran : (cells : Cells) (steps calls : ℕ) → Seen
   halted : (at : Stuck) (cells : Cells) → Seen
 
--- an outcome, behind so many calls
+-- an outcome, after so many calls
 abbrev pub seen : ℕ → Outcome → Seen
 seen calls (done a) = ran a.cells a.steps (calls + length a.log)
 seen calls (stuck at cells) = halted at cells

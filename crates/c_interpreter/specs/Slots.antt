@@ -1,16 +1,16 @@
--- Where the numbers of an instance stand, in the order of its fields.
+-- Where the numbers of an instance are, in the order of its fields.
 use Rattle.std.specs.Prelude.{ℕ, ℤ, pos, List, [], drop, replicate, Option, Some, None, slice_get, slice_index_or}
 use Rattle.base_core.specs.Numbers.{int_at}
 use Rattle.c_interpreter.specs.declared.slots.Slot.{Slot}
 use Rattle.c_interpreter.specs.declared.slots.Slot.TheVariants.{Number, Array, Instance}
 use Rattle.c_interpreter.specs.States.{filled_items}
 
--- a struct: how many numbers an instance has, and where each field stands in it
+-- a struct: how many numbers an instance has, and where each field is in it
 pub record StructLayout : Type 0 where
   pub size : ℕ
   pub slots : List Slot
 
--- what stands past the end of a list
+-- what is past the end of a list
 abbrev pub no_layout : StructLayout
 no_layout = record { size = 0; slots = [] }
 

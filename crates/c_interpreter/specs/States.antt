@@ -1,4 +1,4 @@
--- A machine: its program, and the numbers of all its fields, in the order in which they stand.
+-- A machine: its program, and the numbers of all its fields, in the order in which they are.
 use Rattle.std.specs.Prelude.{List, [], ◌∷◌, ◌++◌, ℤ, take, drop, length}
 use Rattle.c_semantics.specs.Cells.{Cell, number, items, object, Cells, no_cells, more_cells}
 use Rattle.c_syntax.specs.Plain.{program_tree}

@@ -52,7 +52,7 @@ fn leaf_of(frame: &Frame, numbers: &[i64], leaf: Leaf) -> i64
     read(&view, leaf)
 }
 
-/// The value of an expression of the body. Leaves and literals take no view that stands in memory,
+/// The value of an expression of the body. Leaves and literals take no view that is in memory,
 /// and are asked for one by one, since a jump by a table costs more than both tests.
 #[inline(always)]
 pub(crate) fn value_of(

@@ -28,7 +28,7 @@ fn kind_count(counts: &[u32], kind: FieldKind) -> u32
     }
 }
 
-// How many instances stand in fields, if a `u32` can count them.
+// How many instances are in fields, if a `u32` can count them.
 #[tactic(auto, using(crate::proofs::Numbered::count_more, crate::proofs::Numbered::count_within))]
 fn fields_count(counts: &[u32], fields: &[Field]) -> Option<u32>
     ensures counted { IfSome result (λ n. n ≡ fields_count counts.now (field_trees fields.now)) }
@@ -61,7 +61,7 @@ pub(crate) fn counts_of(alloc: Global, structs: &[StructDef]) -> Result<Vec<u32>
     Ok(counts)
 }
 
-// The position of the field in which an instance stands, by its number counted from those in the first field, and its number in
+// The position of the field in which an instance is, by its number counted from those in the first field, and its number in
 // that field.
 fn field_holding(counts: &[u32], fields: &[Field], number: u32) -> Option<(usize, u32)>
     ensures found { IfSome result (λ r. IsHeld counts.now (field_trees fields.now) r.0 r.1 number) }
@@ -94,7 +94,7 @@ pub(crate) struct Place {
     pub(crate) at: usize,
 }
 
-// The instance in a field of one of a struct, in which the one with a number stands, counted from those in the first field, with
+// The instance in a field of one of a struct, in which the one with a number is, counted from those in the first field, with
 // its number in there.
 fn step_into(numbering: &Numbering, of: u32, number: u32) -> Option<(Place, u32)>
     requires { IsNumbering numbering.now }
@@ -139,7 +139,7 @@ pub(crate) fn place_of(numbering: &Numbering, instance: u32) -> Option<Place>
     Some(place)
 }
 
-// How many instances stand in the fields before one that holds an instance.
+// How many instances are in the fields before one that holds an instance.
 fn count_before(counts: &[u32], fields: &[Field], position: usize) -> Option<u32>
     requires few { fields_count counts.now (field_trees fields.now) < 2 ^ 32 }
     requires inside { position < length fields.now }

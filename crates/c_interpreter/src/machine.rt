@@ -41,7 +41,7 @@ impl From<AllocError> for NewFault {
 }
 
 /// A program with its numbers. It is seen as the program and the numbers of the fields of `struct root` and of the structs in it,
-/// in the order in which they stand.
+/// in the order in which they are.
 #[derive(Drop)]
 pub struct Machine {
     checked: Checked,
@@ -91,7 +91,7 @@ impl Machine {
         &self.checked
     }
 
-    /// A tick: `root_step` on a row of inputs, whose outputs y1, y2 and so on are put into `outputs`. The result is what it
+    /// A tick: `root_step` on a row of inputs, whose outputs y1, y2 and so on go into `outputs`. The result is what it
     /// took: steps, and calls of interface procedures.
     ///
     /// # Errors
@@ -156,7 +156,7 @@ impl Machine {
     }
 }
 
-// The tables of a program, and its numbers behind `root_start`.
+// The tables of a program, and its numbers after `root_start`.
 fn started(alloc: Global, checked: &Checked) -> Result<(Tables, Vec<i64>), NewFault>
     requires { IsChecked checked.now }
     ensures machine { IfOk result (λ r. IsMachine checked.now r.0 r.1.items) }
@@ -169,7 +169,7 @@ fn started(alloc: Global, checked: &Checked) -> Result<(Tables, Vec<i64>), NewFa
     Ok((tables, numbers))
 }
 
-// The numbers of a program behind `root_start`, by its tables.
+// The numbers of a program after `root_start`, by its tables.
 fn first_numbers(alloc: Global, checked: &Checked, tables: &Tables) -> Result<Vec<i64>, NewFault>
     requires { AreTables (program_tree checked.now.program) tables.now.layouts.items
         tables.now.logged.items tables.now.root tables.now.start tables.now.step

@@ -1,4 +1,4 @@
-// What stands under a name.
+// What is under a name.
 ghost use Rattle.std.specs.Prelude.{◌≡◌, ◌≤◌, length, map, bytes_eq, IfOk, if◌then◌else◌, true, ◌&&◌, nat_eq, nat_lt, drop, reverse, codes};
 ghost use Rattle.std.specs.List.{position_from, starts_with, prefix_len};
 ghost use Rattle.c_semantics.specs.Machine.{is_interface};

@@ -57,7 +57,7 @@ fn output(slots: &[Slot], field: usize, numbers: &[i64]) -> i64
     number_in(numbers, slots.get(field).copied())
 }
 
-/// Puts the numbers of these fields into a slice.
+/// Writes the numbers of these fields into a slice.
 pub(crate) fn put_outputs(slots: &[Slot], fields: &[usize], numbers: &[i64], out: &mut [i64])
     requires { length fields.now ≡ length out.old }
     ensures { out.new ≡ map (λ f. number_in numbers.now (slice_get slots.now f)) fields.now }

@@ -1,4 +1,4 @@
-// Where the numbers of an instance stand.
+// Where the numbers of an instance are.
 ghost use Rattle.std.specs.Prelude.{◌≡◌, ℤ, List, drop, pos, replicate, slice_get};
 ghost use Rattle.base_core.specs.Numbers.{int_at};
 ghost use Rattle.c_interpreter.specs.Slots.{layout_at, number_in, number_under, items_in};
@@ -129,7 +129,7 @@ pub(crate) fn own_array(slots: &[Slot], field: u32) -> (usize, u32)
     }
 }
 
-/// The number so many places behind another.
+/// The number so many places after another.
 #[inline(always)]
 pub(crate) fn number_behind(numbers: &[i64], at: usize, place: usize) -> i64
     ensures { result ≡ int_at (drop at numbers.now) place }

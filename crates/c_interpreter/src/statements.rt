@@ -308,7 +308,7 @@ fn call_many(
     )
 }
 
-// A call, whose arguments are put into a room for them.
+// A call, whose arguments are written into a room for them.
 #[cycle(statement)]
 fn call_into(
     frame: &Frame,

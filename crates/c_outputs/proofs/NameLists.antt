@@ -1,4 +1,4 @@
--- Names behind references, as lists of names.
+-- Names that references lead to, as lists of names.
 use Rattle.std.proofs.Common.{◌≡◌, refl, sym, ◌∙◌, ap, ℕ, ◌+◌, ◌<◌, Bool, true, false, cond, ◌||◌, List, [], ◌∷◌, ◌++◌, length, map, take, get_or, Some, bytes_eq, if◌then◌else◌}
 use Rattle.std.specs.List.{position_from, position, list_any}
 use Rattle.std.proofs.lemmas.Iterator.Adapters.{position_from-zero}
@@ -42,7 +42,7 @@ turn true false = refl
 turn false true = refl
 turn false false = refl
 
--- a name in a list and one more behind it
+-- a name in a list and one more after it
 has_name-push : (names : List (List ℕ)) (name n : List ℕ) → has_name (names ++ name ∷ []) n ≡ (bytes_eq n name || has_name names n)
 has_name-push names name n = has_name-append names (name ∷ []) n ∙ turn (has_name names n) (bytes_eq n name)
 

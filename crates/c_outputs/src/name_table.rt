@@ -51,7 +51,7 @@ impl<'a> NameTable<'a> {
         self.names.contains(name)
     }
 
-    /// One more name, behind the others; a name that is there already stays where it is, and so do all where memory runs
+    /// One more name, after the others; a name that is there already stays where it is, and so do all where memory runs
     /// out.
     pub fn push(&mut self, name: &'a [u8]) -> Result<(), Memory>
         ensures new { OnOk result (has_name self.old name.now ≡ false → self.new ≡ self.old ++ name.now
@@ -68,7 +68,7 @@ impl<'a> NameTable<'a> {
     }
 }
 
-/// A table that has the same names as a list, in which a name may stand twice.
+/// A table that has the same names as a list, in which a name may occur twice.
 pub fn table_of<'a>(alloc: Global, names: &[&'a [u8]]) -> Result<NameTable<'a>, Memory>
     ensures { IfOk result (λ table. (n : List ℕ) →
         has_name table n ≡ has_name (map (λ x. x.now) names.now) n) }

@@ -17,7 +17,7 @@ fn output_name(alloc: Global, number: usize) -> Result<Text, Memory>
     Text::copy_of(alloc, name.as_bytes())
 }
 
-/// The names of the outputs, in order, where these are the names of the number fields. The only fault is want of memory.
+/// The names of the outputs, in order, where these are the names of the number fields. Fails only when memory runs out.
 pub fn output_names(alloc: Global, names: &[&[u8]]) -> Result<Vec<Text>, Memory>
     ensures { IfOk result (λ found. found.items
         ≡ outputs.output_names (map (λ n. n.now) names.now)) }
@@ -26,7 +26,7 @@ pub fn output_names(alloc: Global, names: &[&[u8]]) -> Result<Vec<Text>, Memory>
     outputs_among(alloc, &table, names)
 }
 
-/// Those of the names of outputs, in order, that stand among names, which are these.
+/// Those of the names of outputs, in order, that are among names, which are these.
 fn outputs_among(alloc: Global, table: &NameTable, names: &[&[u8]]) -> Result<Vec<Text>, Memory>
     requires { (n : List ℕ) →
         has_name table.now n ≡ has_name (map (λ x. x.now) names.now) n }

@@ -1,4 +1,4 @@
--- The program of a text is that of the tokens behind its first line.
+-- The program of a text is that of the tokens after its first line.
 use Rattle.std.proofs.Common.{◌≡◌, sym, ◌∙◌, ap, ℕ, Bool, true, List, Result, Ok, Err}
 use Rattle.std.specs.List.{after_first}
 use Rattle.c_grammar.specs.Tokens.{Token, has_header, tokens_from, last_line, is_line_end}

@@ -14,7 +14,7 @@ module _ (last : ℕ) (limits : Limits) where
     later ← many (fields_step last limits) (suc (length first.1)) 0 first.1
     Ok (first.0 ∷ later.0, later.1)
 
-  -- a struct behind its `struct`
+  -- a struct after its `struct`
   abbrev pub struct_parts : Token → List Token → Parsed WrittenStruct
   struct_parts t tokens = do
     name ← parse_name last tokens
@@ -35,7 +35,7 @@ module _ (last : ℕ) (limits : Limits) where
     later ← many (procedures_step last limits) (suc (length first.1)) 0 first.1
     Ok (first.0 ∷ later.0, later.1)
 
-  -- a file behind its first line
+  -- a file after its first line
   abbrev pub file_parts : List Token → Result WrittenProgram CFault
   file_parts tokens = do
     pures ← many (pures_step last limits) (suc (length tokens)) 0 tokens

@@ -7,7 +7,7 @@ use Rattle.c_grammar.specs.declared.fault.ReadCFault.TheVariants.{Refused, Memor
 use Rattle.c_grammar.specs.declared.written.WrittenProgram.{WrittenProgram as Program}
 use Rattle.c_grammar.specs.WrittenTrees.{program_of}
 
--- an answer is this program or this fault, unless memory ran out
+-- an answer is this program or this error, unless memory ran out
 abbrev pub GivesProgram : Result Program ReadCFault → Result WrittenProgram CFault → Type 0
 GivesProgram (Ok program) parsed = parsed ≡ Ok (program_of program)
 GivesProgram (Err (Refused fault)) parsed = parsed ≡ Err fault

@@ -1,4 +1,4 @@
--- The written program of a text, or its first fault of the grammar.
+-- The written program of a text, or its first error of the grammar.
 use Rattle.std.specs.Prelude.{◌≡◌, ℕ, List, Result, Ok, Err, ⊤}
 use Rattle.c_grammar.specs.ParsedText.{parse_text}
 use Rattle.c_grammar.specs.declared.fault.ReadCFault.{ReadCFault}

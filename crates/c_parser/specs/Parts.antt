@@ -39,7 +39,7 @@ module _ (last : ℕ) where
       close ← parse_word last (codes "}") end.1
       Ok ((r.0.line, body.0), close.1)
 
-    -- a pure function behind its `static`
+    -- a pure function after its `static`
     abbrev pub pure_parts : Token → List Token → Parsed WrittenPure
     pure_parts t tokens = do
       type ← parse_word last (codes "int64_t") tokens
@@ -59,7 +59,7 @@ module _ (last : ℕ) where
         body.1,
       )
 
-    -- a procedure behind its `void`
+    -- a procedure after its `void`
     abbrev pub procedure_parts : (line : ℕ) → (private : Bool) → List Token →
         Parsed WrittenProcedure
     procedure_parts line private tokens = do

@@ -52,7 +52,7 @@ fn pure_of_parts<'a>(
     Ok((pure, rest))
 }
 
-/// A pure function behind its `static`.
+/// A pure function after its `static`.
 pub(crate) fn pure<'a>(
     reader: Reader,
     token: &Token<'a>,
@@ -64,7 +64,7 @@ pub(crate) fn pure<'a>(
     pure_of_parts(reader, token, tokens)
 }
 
-// The struct of a procedure, behind the `(`.
+// The struct of a procedure, after the `(`.
 fn instance<'a>(reader: Reader, tokens: &Tokens<'a>) -> Read<'a, &'a [u8]>
     ensures { read_as (λ name. name.now) result ≡ parts.instance reader.last tokens.now }
 {
@@ -100,7 +100,7 @@ fn procedure_of_parts<'a>(
     Ok((procedure, rest))
 }
 
-// A procedure behind its `void`.
+// A procedure after its `void`.
 fn procedure_behind<'a>(
     reader: Reader,
     line: u32,

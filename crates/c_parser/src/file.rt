@@ -1,4 +1,4 @@
-// A whole file behind its first line.
+// A whole file after its first line.
 ghost use Rattle.std.specs.Prelude.{◌≡◌, map, length, suc};
 ghost use Rattle.c_grammar.specs.Parsing as parsing;
 ghost use Rattle.c_expressions.specs.Gives.{Gives, GivesMore, behind};
@@ -158,7 +158,7 @@ fn file_of_parts<'a>(reader: Reader, tokens: Tokens<'a>) -> Result<WrittenProgra
     })
 }
 
-/// A whole file behind its first line.
+/// A whole file after its first line.
 pub(crate) fn file<'a>(reader: Reader, tokens: Tokens<'a>) -> Result<WrittenProgram<'a>, ReadCFault>
     ensures { GivesProgram result
         (parsing.parse_file reader.last (limits_of reader.limits) tokens.entry) }

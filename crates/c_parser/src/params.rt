@@ -82,7 +82,7 @@ fn later_pure_params<'a>(
     }
 }
 
-/// The parameters of a pure function behind its `(`, and the `)`.
+/// The parameters of a pure function after its `(`, and the `)`.
 pub(crate) fn pure_params<'a>(
     reader: Reader,
     tokens: &Tokens<'a>,
@@ -135,7 +135,7 @@ fn params_step<'a>(
     }
 }
 
-/// The parameters of a procedure behind its instance, and the `)`.
+/// The parameters of a procedure after its instance, and the `)`.
 pub(crate) fn params<'a>(reader: Reader, tokens: Tokens<'a>) -> Parse<'a, Vec<WrittenParam<'a>>>
     ensures { Gives (λ v. map param_of v.items) result
         (parsing.many (parsing.params_step reader.last (limits_of reader.limits))

@@ -19,7 +19,7 @@ fn line_end(bytes: &[u8]) -> usize
     bytes.iter().take_while(|b| **b != b'\n').count()
 }
 
-// The first line, and what stands behind it.
+// The first line, and what comes after it.
 fn split_line(bytes: &[u8]) -> (&[u8], &[u8])
     ensures before { result.0.now ≡ before_first tokens.is_line_end bytes.now }
     ensures behind { result.1.now ≡ after_first tokens.is_line_end bytes.now }
@@ -52,7 +52,7 @@ fn the_limits() -> Limits
     }
 }
 
-/// The program that is written in a text, by names and with lines; or the first fault of the grammar and its limits, `Syntax`
+/// The program that is written in a text, by names and with lines; or the first error of the grammar and its limits, `Syntax`
 /// or `Deep` (the C subset of `docs/FORMATS.md`).
 pub fn parse_c<'a>(alloc: Global, bytes: &'a [u8]) -> Result<WrittenProgram<'a>, ReadCFault>
     ensures { GivesText bytes.now result }

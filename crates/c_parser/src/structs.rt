@@ -11,7 +11,7 @@ use c_grammar::{WrittenField, WrittenKind, WrittenStruct};
 use c_syntax::CType;
 use c_tokens::{Token, Tokens, is, lists_continue, type_of_text};
 
-// Behind the name of a field of a type: an array where a length follows, else a number.
+// After the name of a field of a type: an array where a length follows, else a number.
 fn number_kind<'a>(reader: Reader, ty: CType, tokens: Tokens<'a>) -> Read<'a, WrittenKind<'a>>
     ensures { read_as kind_of result
         ≡ parsing.parse_length reader.last (limits_of reader.limits) ty tokens.entry
@@ -26,7 +26,7 @@ fn number_kind<'a>(reader: Reader, ty: CType, tokens: Tokens<'a>) -> Read<'a, Wr
     Ok((WrittenKind::Array(ty, count), rest))
 }
 
-// A field that is a struct, behind `struct`.
+// A field that is a struct, after `struct`.
 fn struct_field<'a>(
     reader: Reader,
     token: &Token<'a>,
@@ -46,7 +46,7 @@ fn struct_field<'a>(
     Ok((field, rest))
 }
 
-// A field that is a number or an array, behind its type.
+// A field that is a number or an array, after its type.
 fn number_field<'a>(
     reader: Reader,
     token: &Token<'a>,
@@ -116,7 +116,7 @@ fn later_fields<'a>(
     }
 }
 
-// The fields of a struct behind its `{`, and the `}`.
+// The fields of a struct after its `{`, and the `}`.
 fn fields<'a>(reader: Reader, tokens: &Tokens<'a>) -> Parse<'a, Vec<WrittenField<'a>>>
     ensures { Gives (λ v. map field_of v.items) result
         (parts.fields reader.last (limits_of reader.limits) tokens.now) }
@@ -147,7 +147,7 @@ fn struct_of_parts<'a>(
     Ok((structure, rest))
 }
 
-/// A struct behind its `struct`.
+/// A struct after its `struct`.
 pub(crate) fn structure<'a>(
     reader: Reader,
     token: &Token<'a>,

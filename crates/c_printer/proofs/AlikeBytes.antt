@@ -1,4 +1,4 @@
--- Bytes that C99 reads alike, whatever stands before them and whatever of the same sort behind.
+-- Bytes that C99 reads alike, whatever is before them and whatever of the same sort is after them.
 use Rattle.std.proofs.Common.{◌≡◌, refl, sym, ◌∙◌, ap, subst, ℕ, zero, suc, ◌^◌, ◌<◌, Bool, true, false, not, ◌&&◌, ◌||◌, ◌==◌, List, [], ◌∷◌, ◌++◌, replicate, codes, decimal, eqb-true}
 use Rattle.std.specs.List.{list_all, list_any}
 use Rattle.std.specs.Char.{is_ascii_digit}
@@ -16,7 +16,7 @@ use Rattle.c_printer.specs.Lines.{ended}
 use Rattle.c_grammar.proofs.lemmas.LiteralLaws.{and_first, and_second, numeral}
 use Rattle.c_printer.proofs.lemmas.Bytes.{differs, NameParts, name-parts}
 
--- behind this byte no byte is joined to the one before it, and none joins lines
+-- after this byte no byte is joined to the one before it, and none joins lines
 abbrev pub stands_apart : ℕ → List ℕ → Bool
 stands_apart a [] = true
 stands_apart a (b ∷ bs) = not (is_splice b) && (not (joins a b) && stands_apart b bs)
@@ -188,7 +188,7 @@ type-free I32 = text-free (type_text I32) refl
 type-free U32 = text-free (type_text U32) refl
 type-free I64 = text-free (type_text I64) refl
 
--- behind free bytes, two texts that are free together
+-- after free bytes, two texts that are free together
 pub joined : {from : Place} {xs : List ℕ} (t u : List ℕ) → Spans from anywhere xs → begins_free (t ++ u) ≡ true →
     Spans from anywhere (xs ++ t ++ u)
 joined {from} {xs} t u f both = subst (Spans from anywhere) (sym (append_assoc xs t u)) (f ◃ text-free (t ++ u) both)

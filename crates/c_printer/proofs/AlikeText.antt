@@ -21,7 +21,7 @@ use Rattle.c_printer.proofs.AlikeNotes.{note-lines, noted-lines}
 
 -- ---- Names
 
--- each of different names, and what stands past their end, is word bytes
+-- each of different names, and what is past their end, is word bytes
 named : (names : List (List ℕ)) → AreDistinct names → (k : ℕ) → AreWordBytes (name_at names k)
 named [] h zero = refl
 named [] h (suc k) = refl
@@ -103,7 +103,7 @@ module _ (v : Vocabulary) (words : HasWords v) (reach : Reach) where
   arguments-free (t ∷ types) (more_exprs e es) h =
       text-free (codes ", (") refl ◃ type-free t ◃ text-free (codes ")") refl ◃ expr-free e h.0 ◃ arguments-free types es h.1
 
-  -- whose procedure is called stands behind a bracket
+  -- whose procedure is called comes after a bracket
   called-free : (target : Target) {xs : List ℕ} → IsFree xs → IsFree (xs ++ codes "(" ++ target_bytes v target)
   called-free OwnTarget f = f ◃ text-free (codes "(") refl ◃ text-free (codes "s") refl
   called-free (ChildTarget g) {xs} f =

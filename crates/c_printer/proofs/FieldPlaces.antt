@@ -1,4 +1,4 @@
--- Where the field with a name stands.
+-- Where the field with a name is.
 use Rattle.std.proofs.Common.{◌≡◌, ◌∙◌, ap, ℕ, zero, suc, ◌+◌, ◌<◌, List, [], ◌∷◌, length, map, Some, option_map, slice_get, if◌then◌else◌, arith}
 use Rattle.c_syntax.specs.Tree.{FieldTree}
 use Rattle.c_rules.specs.Resolve.{field_from}

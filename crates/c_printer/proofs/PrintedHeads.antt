@@ -19,7 +19,7 @@ use Rattle.c_printer.proofs.NotedLines.{note-read, noted-read}
 use Rattle.c_printer.proofs.PrintedTrees.{written_pure, written_kind, field_above, written_fields, fields_lines, head_line, written_struct, struct_lines, written_param, body_vocabulary, written_procedure, procedure_lines, pure_lines}
 use Rattle.c_printer.proofs.PrintedBodies.{Speaks, Ends, s-ends, expr-read, stmts-read}
 
--- texts one behind the other
+-- texts one after the other
 six : (a b c d e f z : List ℕ) → (((((a ++ b) ++ c) ++ d) ++ e) ++ f) ++ z ≡ a ++ (b ++ (c ++ (d ++ (e ++ (f ++ z)))))
 six a b c d e f z = simp append_assoc
 
@@ -132,7 +132,7 @@ kind-read p l (Struct k) rest named h =
     (reads-word (codes "struct") (32 ∷ behind) (struct-token behind) ▸ spaced
     (reads-name (struct_name p k) (32 ∷ rest) (named k h) refl))
 
--- the length of an array behind the name of a field, and what stands behind a name
+-- the length of an array after the name of a field, and what comes after a name
 length-read : (p : ProgramTree) (l count : ℕ) (kind : FieldKind) (rest : List ℕ) → IsLawfulKind count kind →
     Reads (length_spelling (written_kind p kind)) l (length_bytes kind ++ 59 ∷ rest) l (59 ∷ rest)
 length-read p l count (Number type) rest h = reads-nothing

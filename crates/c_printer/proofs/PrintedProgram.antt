@@ -18,7 +18,7 @@ use Rattle.c_printer.proofs.PrintedTrees.{pure_lines, written_pures, pures_lines
 use Rattle.c_printer.proofs.PrintedHeads.{AreKinds, pure-read, struct-read, procedure-read}
 use Rattle.c_printer.proofs.PrintedScopes.{pure-speaks, procedure-speaks}
 
--- what stands in the front of a list stands in the list
+-- what is in the front of a list is in the list
 pub slice_get-front : {A : Type 0} (xs ys : List A) (k : ℕ) (x : A) → slice_get xs k ≡ Some x → slice_get (xs ++ ys) k ≡ Some x
 slice_get-front [] ys k x there = cc
 slice_get-front (y ∷ xs) ys zero x there = there

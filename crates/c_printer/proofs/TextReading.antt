@@ -40,14 +40,14 @@ reads-nothing = record { is = refl }
 pub spaced : {a : Spelling} {l m : ℕ} {x z : List ℕ} → Reads a l x m z → Reads a l (32 ∷ x) m z
 spaced reads = record { is = reads.is }
 
--- a line end before a text, and behind it
+-- a line end before a text, and after it
 pub lined : {a : Spelling} {l m : ℕ} {x z : List ℕ} → Reads a (l + 1) x m z → Reads a l (10 ∷ x) m z
 lined reads = record { is = reads.is }
 
 pub line_ended : {a : Spelling} {l m : ℕ} {x z : List ℕ} → Reads a l x m (10 ∷ z) → Reads a l x (m + 1) z
 line_ended reads = record { is = reads.is }
 
--- blanks before a text, and behind it
+-- blanks before a text, and after it
 pub margined : {a : Spelling} {l m : ℕ} {x z : List ℕ} (margin : ℕ) → Reads a l x m z → Reads a l (replicate margin 32 ++ x) m z
 margined zero reads = reads
 margined (suc n) reads = spaced (margined n reads)

@@ -56,7 +56,7 @@ others_shown : comment_text (97 ∷ 195 ∷ 164 ∷ 255 ∷ []) ≡ codes "a..."
 unfolding comment_text is_utf8 chars encode_utf8
 others_shown = refl
 
--- 60 bytes stand as they are, and of 61 the first 57
+-- 60 bytes stay as they are, and of 61 the first 57
 sixty_shown : comment_text (replicate 60 97) ≡ replicate 60 97
 unfolding comment_text is_utf8 chars encode_utf8
 sixty_shown = refl

@@ -104,7 +104,7 @@ abbrev pub target_bytes : Vocabulary → Target → List ℕ
 target_bytes v OwnTarget = codes "s"
 target_bytes v (ChildTarget f) = codes "&s->" ++ field_name v.fields f
 
--- the arguments of a call of a procedure, each behind `, ` and with its cast
+-- the arguments of a call of a procedure, each after `, ` and with its cast
 abbrev pub arguments_bytes : Vocabulary → List CType → ExprTrees → List ℕ
 arguments_bytes v types no_exprs = []
 arguments_bytes v [] (more_exprs e es) = []
@@ -190,13 +190,13 @@ kind_bytes p (Number type) = type_text type
 kind_bytes p (Array type count) = type_text type
 kind_bytes p (Struct k) = codes "struct " ++ struct_name p k
 
--- what stands behind the name of a field: the length of an array
+-- what comes after the name of a field: the length of an array
 abbrev pub length_bytes : FieldKind → List ℕ
 length_bytes (Number type) = []
 length_bytes (Array type count) = codes "[" ++ decimal count ++ codes "]"
 length_bytes (Struct k) = []
 
--- the declaration of a field, but for its margin
+-- the declaration of a field, except for its margin
 abbrev pub field_bytes : ProgramTree → FieldTree → List ℕ
 field_bytes p f =
     kind_bytes p f.kind ++ codes " " ++ f.name ++ length_bytes f.kind ++ codes ";"
@@ -218,7 +218,7 @@ abbrev pub private_bytes : Bool → List ℕ
 private_bytes true = codes "static void "
 private_bytes false = codes "void "
 
--- a parameter of a procedure, behind a `,`
+-- a parameter of a procedure, after a `,`
 abbrev pub param_bytes : ParamTree → List ℕ
 param_bytes q = codes ", " ++ type_text q.type ++ codes " " ++ q.name
 

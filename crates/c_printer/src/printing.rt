@@ -18,7 +18,7 @@ use c_syntax::Program;
 use std::alloc::{AllocError, Global};
 
 /// The text of a lawful program: C99 of the subset that is read again.
-/// It has one reading: the program, but for the lines, which are those of the text.
+/// It has one reading: the program, except for the lines, which are those of the text.
 pub fn print(alloc: Global, p: &Program) -> Result<Vec<u8>, Memory>
     requires { IsLawful (program_tree p.now) }
     ensures { IfOk result (λ text. IsTextOf text.items (program_tree p.now)) }

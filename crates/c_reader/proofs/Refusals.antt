@@ -1,4 +1,4 @@
--- The faults of texts that are refused.
+-- The errors of texts that are refused.
 use Rattle.std.proofs.Common.{◌≡◌, sym, subst, ℕ, List, Ok, Err, Result}
 use Rattle.std.specs.Result.{IfErr, IsErrAnd}
 use Rattle.c_grammar.specs.declared.fault.ReadCFault.{ReadCFault}
@@ -8,7 +8,7 @@ use Rattle.c_reading_laws.proofs.lemmas.ReadTexts.{texts_agree}
 use Rattle.c_rules.specs.Gives.{Fails}
 use Rattle.c_reader.specs.Reading.{IsReadFault}
 
--- the first fault of a text
+-- the first error of a text
 pub refused-text : (bytes : List ℕ) (e : ReadCFault) → Fails e (read_text bytes) → IsReadFault bytes e
 refused-text bytes (Refused fault) h = texts_agree.refused bytes fault h
 refused-text bytes Memory h = tt

@@ -6,7 +6,7 @@ use Rattle.c_grammar.specs.declared.fault.ReadCFault.{ReadCFault}
 use Rattle.c_grammar.specs.declared.fault.ReadCFault.TheVariants.{Refused, Memory}
 use Rattle.c_checked.specs.Checked.{CheckedProgram}
 
--- the bytes are no text of a program, and this is their first fault; of want of memory nothing is
+-- the bytes are no text of a program, and this is their first error; of memory that runs out nothing is
 -- said
 abbrev pub IsReadFault : List ℕ → ReadCFault → Type 0
 IsReadFault bytes (Refused fault) = CFaultOf bytes fault

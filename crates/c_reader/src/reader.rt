@@ -28,7 +28,7 @@ fn read_program(alloc: Global, bytes: &[u8]) -> Result<Program, ReadCFault>
 ///
 /// # Errors
 ///
-/// `Refused` exactly where the text has no reading, with its first fault: `Syntax` or `Deep` at the first token with which no
+/// `Refused` exactly where the text has no reading, with its first error: `Syntax` or `Deep` at the first token with which no
 /// file goes on or that opens something beyond a limit, else `Name`, `TypeRule` or `Deep` at the first construct that breaks a
 /// static rule. `Memory` where memory ran out.
 pub fn read_c(alloc: Global, bytes: &[u8]) -> Result<Checked, ReadCFault>

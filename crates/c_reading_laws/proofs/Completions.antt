@@ -11,7 +11,7 @@ use Rattle.c_syntax.specs.Limits.{expr_limit}
 use Rattle.c_grammar.proofs.lemmas.PrefixLaws.{seq-parts}
 use Rattle.c_grammar.proofs.lemmas.Texts.{is_op-text, is_comparison-text, connective_text, is_connective-text}
 
--- an operand in a role stands in front; a first operand is what completes a `(` with the role around it
+-- an operand in a role is in front; a first operand is what completes a `(` with the role around it
 abbrev pub Operand : Role → List Token → List Token → Type 0
 Operand (as_kind expression) tokens rest = (e : WrittenExpr) × (expr_spelling e tokens ≡ Some rest)
 Operand (as_kind condition) tokens rest = (c : WrittenCond) × (cond_spelling c tokens ≡ Some rest)

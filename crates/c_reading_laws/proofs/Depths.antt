@@ -33,7 +33,7 @@ within-join (x ∷ xs) ys h k =
     let b : _ = both-true (is_within x) (list_all is_within xs) h in
     and-true (is_within x) (list_all is_within (xs ++ ys)) b.0 (within-join xs ys b.1 k)
 
--- what opens, and what is behind it
+-- what opens, and what is after it
 pub first-split : (depth limit : ℕ) (os : List Opening) → (nat_le depth limit && list_all is_within os) ≡ true → (depth ≤ limit) × Within os
 first-split depth limit os h =
     let b : _ = both-true (nat_le depth limit) (list_all is_within os) h in

@@ -9,7 +9,7 @@ use Rattle.c_grammar.proofs.lemmas.PrefixLaws.{some_same, seq-parts, at_line-inn
 use Rattle.c_grammar.proofs.lemmas.LiteralLaws.{literals-agree}
 use Rattle.c_reading_laws.proofs.Walks.{AgreeOn, Walk, ◌▸◌, opening-walk, word-walk, agree-walk, same-walk, reopened}
 
--- behind a `(` an opener is that of a first operand
+-- after a `(` an opener is that of a first operand
 inside-opens : (role : Role) (d : ℕ) (more : List Need) (tokens : List Token) → Opens tokens →
     Walk [] tokens (inside_need role d ∷ more) tokens (operand_need (as_first role) (d + 1) ∷ more)
 inside-opens role d more tokens o =

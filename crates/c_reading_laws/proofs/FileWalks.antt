@@ -341,7 +341,7 @@ pure_params-walk (x ∷ ps) count more tokens mid rest h k walk =
     (pure_param_need (count + 1) ∷ pure_params_need (count + 1) ∷ more) refl ▸ pure_param-walk x (count + 1)
     (pure_params_need (count + 1) ∷ more) p.0 q.0 q.1 ▸ pure_params-walk ps (count + 1) more q.0 mid rest q.2 k walk
 
--- what is needed behind the kind of a field
+-- what is needed after the kind of a field
 abbrev behind_kind : WrittenKind → List Need → List Need
 behind_kind (number_kind type) e = name_need ∷ length_need ∷ text_need (codes ";") ∷ e
 behind_kind (array_kind type count) e = name_need ∷ length_need ∷ text_need (codes ";") ∷ e

@@ -432,7 +432,7 @@ pures-deep count t rest e = by (bytes_eq t.text (codes "static")) refl e
         (f.0, pures-back count t f.0 rest (inl (is, f.1)))
     by false is k = absurd (first-shallow ((bytes_eq t.text (codes "struct"), leaves struct_needs) ∷ []) (tt, tt) k)
 
--- a token that opens something too deep stands in front of what could be given, were there no limit
+-- a token that opens something too deep is in front of what could be given, were there no limit
 deep : (need : Need) (t : Token) (rest : List Token) → reply_of need t.text ≡ too_deep →
     (tokens : List Token) × Fills need (t ∷ tokens) rest
 deep (text_need wanted) t rest e = absurd (only-shallow (bytes_eq t.text wanted) [] e)

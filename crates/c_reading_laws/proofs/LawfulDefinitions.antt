@@ -44,7 +44,7 @@ apart-parts (m ∷ names) n others h =
       (or-right (bytes_eq m n) (has_name others m) h.0, later.1),
     )
 
--- different names, and one more behind them
+-- different names, and one more after them
 pub distinct-more : (names : List (List ℕ)) (n : List ℕ) → AreDistinct names → is_name n ≡ true →
     has_name names n ≡ false → AreDistinct (names ++ n ∷ [])
 distinct-more [] n d is h = (is, refl, tt)

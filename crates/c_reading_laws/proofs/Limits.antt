@@ -282,7 +282,7 @@ pure-limits known w x number e =
       λ h. o.1 (h.0, i.1 (omega (arith, count, h.1.params)), j.1 (omega (arith, h.1.body))),
     )
 
--- each pure function is resolved behind those before it
+-- each pure function is resolved after those before it
 abbrev Pures : Known → List WrittenPure → List PureTree → Known → Type 0
 Pures known [] [] after = known ≡ after
 Pures known [] (x ∷ xs) after = ⊥

@@ -62,7 +62,7 @@ module _ (last : ℕ) where
         word-parsed last (codes ")") q.behind rest q.close,
       ) refl
 
-  -- a field behind `s`
+  -- a field after `s`
   pub field_name-parsed : (name : List ℕ) (tokens rest : List Token) →
       (word (codes "->") ⨾ name_word name) tokens ≡ Some rest → parse_field_name last tokens ≡ Ok (name, rest)
   field_name-parsed name tokens rest h =

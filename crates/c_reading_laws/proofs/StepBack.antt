@@ -28,7 +28,7 @@ own-put field tokens behind mid rest self arrow name =
     seq-put (word (codes "s")) (word (codes "->") ⨾ name_word field) tokens behind rest self
     (seq-put (word (codes "->")) (name_word field) behind mid rest arrow name)
 
--- what is stored, behind the field or the item
+-- what is stored, after the field or the item
 stored-back : (tokens rest : List Token) →
     FillsAll (text_need (codes "=") ∷ text_need (codes "(") ∷ type_need ∷ text_need (codes ")") ∷ expr_need 1
     ∷ text_need (codes ";") ∷ []) tokens rest →
@@ -262,7 +262,7 @@ comma-back needs t tokens rest g =
     by (inr (inl (test, same))) = inr (word-put (codes ")") t tokens (same_text t.text (codes ")") test) ∙ ap Some same)
     by (inr (inr h)) = absurd h
 
--- an index behind its `[`
+-- an index after its `[`
 index-back : (depth : ℕ) (t : Token) (tokens rest : List Token) → bytes_eq t.text (codes "[") ≡ true →
     FillsAll (index_needs depth) tokens rest →
     (index : WrittenExpr) × (in_brackets (expr_spelling index) (t ∷ tokens) ≡ Some rest)
@@ -272,7 +272,7 @@ index-back depth t tokens rest is (m, e, (k, close, same)) = (
       (word-put (codes "[") t tokens (same_text t.text (codes "[") is)) e.1 (close ∙ ap Some same),
 )
 
--- the length of an array behind its `[`
+-- the length of an array after its `[`
 length-back : (t : Token) (tokens rest : List Token) → bytes_eq t.text (codes "[") ≡ true →
     FillsAll length_needs tokens rest → (count : ℕ) × (in_brackets (literal_word count) (t ∷ tokens) ≡ Some rest)
 length-back t tokens rest is (m, count, (k, close, same)) = (

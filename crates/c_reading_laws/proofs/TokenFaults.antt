@@ -1,4 +1,4 @@
--- The first fault that is told of tokens is the first token with which no file can go on, or that opens something too deep.
+-- The first error that is reported of tokens is the first token with which no file can go on, or that opens something too deep.
 use Rattle.std.proofs.Common.{◌≡◌, refl, sym, ◌∙◌, ap, ℕ, zero, suc, inl, inr, List, [], ◌∷◌, ◌++◌, length, take, slice_get, Option, Some, None, Bool, true, false, ◌&&◌, if◌then◌else◌, subst, append_assoc, append-nil}
 use Rattle.std.specs.List.{list_all}
 use Rattle.c_syntax.specs.declared.fault.CFault.{CFault}
@@ -14,7 +14,7 @@ use Rattle.c_reading_laws.proofs.Walks.{Steps}
 use Rattle.c_reading_laws.proofs.FileWalks.{file-walk}
 use Rattle.c_reading_laws.proofs.GoesOn.{leads-go_on, deep-goes_on, leads-end}
 
--- the steps behind a front that leads to needs, whose tokens open nothing beyond a limit
+-- the steps after a front that leads to needs, whose tokens open nothing beyond a limit
 record Behind (os : List Opening) (before after : List Token) (needs left : List Need) : Type 0 where
   further : List Opening
   within : list_all is_within (take (length before) os) ≡ true
@@ -80,7 +80,7 @@ leads-goes_on tokens needs h =
     let c : CanGoOn tokens = leads-go_on tokens needs h in
     record { more = c.0; program = c.1; spelled = c.2; within = (file-steps tokens c.0 c.1 needs h c.2).within }
 
--- what stands at the token behind a front
+-- what is at the token after a front
 record AtToken (program : WrittenProgram) (before : List Token) (t : Token) (needs : List Need) : Type 0 where
   opening : Opening
   there : slice_get (openings program) (length before) ≡ Some opening
@@ -202,7 +202,7 @@ needs_agree = record {
         let a : AtToken program before t l.0 = at-token program before t more l.0 l.1 spelled in
         (a.opening, a.there, deep-beyond (is_within a.opening) a.next (step_needs l.0 t.text) a.step (opens-deep before l.0 t l.1 o))
 
--- the fault of tokens is that of what is behind a front that passes
+-- the error of tokens is that of what is after a front that passes
 lead-fault : (before after : List Token) (start needs : List Need) (last : ℕ) → Leads start before needs →
     token_fault start last (before ++ after) ≡ token_fault needs last after
 lead-fault [] after start needs last h = ap (λ n. token_fault n last after) h
@@ -307,7 +307,7 @@ pub faults_agree : FaultsAgree
 faults_agree tokens last answer =
     (λ e. subst (λ o. IsFirstFault tokens last o) e (first [] tokens file_needs last refl), λ i. told tokens last answer i)
 
--- where no fault is told, what the tokens spell opens nothing beyond a limit
+-- where no error is reported, what the tokens spell opens nothing beyond a limit
 pub no_fault-within : (tokens : List Token) (last : ℕ) (program : WrittenProgram) → Spells tokens program →
     token_fault file_needs last tokens ≡ None → list_all is_within (openings program) ≡ true
 no_fault-within tokens last program spelled e =

@@ -1,4 +1,4 @@
--- The fault of tokens along a walk: that of what is behind it, where nothing opens too deep.
+-- The error of tokens along a walk: that of what is after it, where nothing opens too deep.
 use Rattle.std.proofs.Common.{◌≡◌, refl, ◌∙◌, ap, ℕ, List, [], ◌∷◌, Some, None, Bool, true, false, ◌&&◌, if◌then◌else◌}
 use Rattle.std.specs.List.{list_all}
 use Rattle.c_grammar.specs.Tokens.{Token}
@@ -32,13 +32,13 @@ steps-fault (opening ∷ os) (t ∷ tokens) needs rest left last w s =
     by true k step later = ap (λ r. on_reply r t.line (λ more. token_fault more last tokens)) step ∙ later k
     by false k step later = cc
 
--- along a walk that opens nothing beyond a limit, the fault stays
+-- along a walk that opens nothing beyond a limit, the error stays
 pub walk-fault : {os : List Opening} {tokens : List Token} {needs : List Need} {rest : List Token} {left : List Need} →
     Walk os tokens needs rest left → list_all is_within os ≡ true → (last : ℕ) →
     token_fault needs last tokens ≡ token_fault left last rest
 walk-fault {os} {tokens} {needs} {rest} {left} walk w last = steps-fault os tokens needs rest left last w walk.steps
 
--- so for an expression, a condition and a statement at a depth, and whatever is needed behind them
+-- so for an expression, a condition and a statement at a depth, and whatever is needed after them
 pub expr-fault : (e : WrittenExpr) (d : ℕ) (tokens rest : List Token) → expr_spelling e tokens ≡ Some rest → Firm rest →
     list_all is_within (expr_openings d e) ≡ true → (more : List Need) (last : ℕ) →
     token_fault (expr_need d ∷ more) last tokens ≡ token_fault more last rest

@@ -1,5 +1,5 @@
--- Laws that readers of texts owe: the first fault of tokens is the first token with which no file
--- can go on, or that opens something beyond its limit; and each text has one reading or one fault.
+-- Laws that readers of texts owe: the first error of tokens is the first token with which no file
+-- can go on, or that opens something beyond its limit; and each text has one reading or one error.
 use Rattle.std.specs.Prelude.{◌≡◌, ℕ, true, false, List, [], ◌∷◌, ◌++◌, length, take, slice_get, Option, Some, None, Ok, Err, ◌⊎◌, ◌↔◌}
 use Rattle.std.specs.List.{list_all}
 use Rattle.c_syntax.specs.declared.fault.CFault.{CFault}
@@ -23,7 +23,7 @@ pub record GoesOn (tokens : List Token) : Type 0 where
   pub spelled : Spells (tokens ++ more) program
   pub within : list_all is_within (take (length tokens) (openings program)) ≡ true
 
--- some file of the grammar begins with these tokens and this one behind them, and the one opens
+-- some file of the grammar begins with these tokens and this one after them, and the one opens
 -- something beyond its limit
 pub record OpensBeyond (before : List Token) (t : Token) : Type 0 where
   pub more : List Token
@@ -33,13 +33,13 @@ pub record OpensBeyond (before : List Token) (t : Token) : Type 0 where
   pub there : slice_get (openings program) (length before) ≡ Some opening
   pub beyond : is_within opening ≡ false
 
--- behind the first tokens of a list, with which a file can go on, this token stands
+-- after the first tokens of a list, with which a file can go on, this token comes
 pub record Reaches (tokens before : List Token) (t : Token) : Type 0 where
   pub after : List Token
   pub list : tokens ≡ before ++ t ∷ after
   pub goes_on : GoesOn before
 
--- no file goes on with a token, and the fault is Syntax at its line
+-- no file goes on with a token, and the error is Syntax at its line
 pub record StopsAtToken (tokens : List Token) (fault : CFault) : Type 0 where
   pub before : List Token
   pub token : Token
@@ -47,7 +47,7 @@ pub record StopsAtToken (tokens : List Token) (fault : CFault) : Type 0 where
   pub stops : CanGoOn (before ++ token ∷ []) → ⊥
   pub is : fault ≡ fault_at token.line Syntax
 
--- a token opens something beyond its limit, and the fault is Deep at its line
+-- a token opens something beyond its limit, and the error is Deep at its line
 pub record StopsAtDepth (tokens : List Token) (fault : CFault) : Type 0 where
   pub before : List Token
   pub token : Token
@@ -55,7 +55,7 @@ pub record StopsAtDepth (tokens : List Token) (fault : CFault) : Type 0 where
   pub deep : OpensBeyond before token
   pub is : fault ≡ fault_at token.line Deep
 
--- a file can go on with the tokens, but they are none, and the fault is Syntax at the last line
+-- a file can go on with the tokens, but they are none, and the error is Syntax at the last line
 pub record StopsAtEnd (tokens : List Token) (last : ℕ) (fault : CFault) : Type 0 where
   pub goes_on : GoesOn tokens
   pub unfinished : (program : WrittenProgram) → Spells tokens program → ⊥
@@ -67,13 +67,13 @@ pub record IsFile (tokens : List Token) : Type 0 where
   pub spelled : Spells tokens program
   pub within : list_all is_within (openings program) ≡ true
 
--- the first fault of tokens, if they have one; `last` is the text's last line
+-- the first error of tokens, if they have one; `last` is the text's last line
 abbrev pub IsFirstFault : List Token → ℕ → Option CFault → Type 0
 IsFirstFault tokens last None = IsFile tokens
 IsFirstFault tokens last (Some fault) =
     StopsAtToken tokens fault ⊎ StopsAtDepth tokens fault ⊎ StopsAtEnd tokens last fault
 
--- the first fault that is told is the first fault
+-- the first error that is reported is the first error
 abbrev pub FaultsAgree : Type 0
 FaultsAgree = (tokens : List Token) (last : ℕ) (answer : Option CFault) →
     (token_fault file_needs last tokens ≡ answer) ↔ IsFirstFault tokens last answer
@@ -83,7 +83,7 @@ pub record LacksHeader (bytes : List ℕ) (fault : CFault) : Type 0 where
   pub lacks : has_header bytes ≡ false
   pub is : fault ≡ fault_at 1 Syntax
 
--- one whose tokens have a first fault
+-- one whose tokens have a first error
 pub record StopsAmongTokens (bytes : List ℕ) (fault : CFault) : Type 0 where
   pub header : has_header bytes ≡ true
   pub first : IsFirstFault (tokens_of bytes) (last_line bytes) (Some fault)
@@ -117,7 +117,7 @@ pub record NeedsAgree : Type 0 where
   pub throughout : (tokens more : List Token) (program : WrittenProgram) → GoesOn tokens →
       Spells (tokens ++ more) program →
       list_all is_within (take (length tokens) (openings program)) ≡ true
-  -- a token behind them is refused exactly where no file goes on with it
+  -- a token after them is refused exactly where no file goes on with it
   pub refused : (before : List Token) (needs : List Need) (t : Token) →
       Leads file_needs before needs →
       (step_needs needs t.text ≡ refuses) ↔ (CanGoOn (before ++ t ∷ []) → ⊥)
@@ -144,7 +144,7 @@ LimitsAgree = (last : ℕ) (written : WrittenProgram) (p : ProgramTree) →
     resolve_program last written ≡ Ok p →
     (list_all is_within (openings written) ≡ true) ↔ IsWithinLimits p
 
--- each text has one reading or one fault, and no text has both; what is read is lawful
+-- each text has one reading or one error, and no text has both; what is read is lawful
 pub record ReadingsAgree : Type 0 where
   pub some : (bytes : List ℕ) →
       ((p : ProgramTree) × CText bytes p) ⊎ ((fault : CFault) × CFaultOf bytes fault)

@@ -1,4 +1,4 @@
--- Texts with arrays that keep the static rules or break one, by hand, with the first fault.
+-- Texts with arrays that keep the static rules or break one, by hand, with the first error.
 use Rattle.std.specs.Prelude.{◌≡◌, ℕ, List, [], ◌∷◌, ◌++◌, Option, Some, None, Result, Ok, Err, codes, refl}
 use Rattle.std.specs.Fmt.{digits}
 use Rattle.c_syntax.specs.declared.fault.CFault.{CFault}
@@ -104,7 +104,7 @@ value-third : stmt_fault (codes "s->a[" ++ 10 ∷ codes "(int64_t)u1] = (int16_t
 unfolding digits
 value-third = refl
 
--- a leaf before what stands in its index
+-- a leaf before what is in its index
 leaf-first : stmt_fault (codes "s->y1 = (int32_t)(int64_t)s->y1[" ++ 10 ∷ codes "(int64_t)x];")
     ≡ Some (fault_at 7 TypeRule)
 unfolding digits

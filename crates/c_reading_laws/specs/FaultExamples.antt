@@ -1,4 +1,4 @@
--- Texts of the grammar that break a static rule, with their first faults.
+-- Texts of the grammar that break a static rule, with their first errors.
 use Rattle.std.specs.Prelude.{ℕ, false, List, [], ◌∷◌, codes, refl}
 use Rattle.std.specs.Fmt.{digits}
 use Rattle.c_syntax.specs.declared.code.CType.TheVariants.{I16, I32, I64}

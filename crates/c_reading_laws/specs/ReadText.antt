@@ -9,11 +9,11 @@ use Rattle.c_rules.specs.Reading.{CText, CFaultOf}
 use Rattle.c_syntax.specs.Lawful.{IsLawful}
 use Rattle.c_grammar.specs.ParsedText.{parse_text}
 
--- the program of a text, its names resolved, or its first fault
+-- the program of a text, its names resolved, or its first error
 abbrev pub read_text : List ℕ → Result ProgramTree CFault
 read_text bytes = parse_text bytes >>= resolve_program (last_line bytes)
 
--- what is read from a text is its program, which is lawful; the fault that is told is the text's
+-- what is read from a text is its program, which is lawful; the reported error is the text's
 -- first
 pub record TextsAgree : Type 0 where
   pub read : (bytes : List ℕ) (p : ProgramTree) → read_text bytes ≡ Ok p → CText bytes p

@@ -262,7 +262,7 @@ one_written = record {
       ∷ [];
 }
 
--- the text of a model with one input and one output has no fault of tokens, and is one of its
+-- the text of a model with one input and one output has no error of tokens, and is one of its
 -- program
 pub one_text-no_token_fault : token_fault file_needs (last_line one_text) (tokens_of one_text)
     ≡ None

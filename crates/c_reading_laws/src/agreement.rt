@@ -8,8 +8,8 @@ pub fn needs_agree()
     ensures { NeedsAgree }
 {}
 
-/// The first fault of tokens is at the first token with which no file of the grammar can go on (`Syntax`), or that opens
-/// something beyond its limit (`Deep`), or at the end (`Syntax`); and tokens without a fault are a file within the limits.
+/// The first error of tokens is at the first token with which no file of the grammar can go on (`Syntax`), or that opens
+/// something beyond its limit (`Deep`), or at the end (`Syntax`); and tokens with no error are a file within the limits.
 #[tactic(auto, using(crate::proofs::TokenFaults::faults_agree))]
 pub fn faults_agree()
     ensures { FaultsAgree }
@@ -20,13 +20,13 @@ pub fn limits_agree()
     ensures { LimitsAgree }
 {}
 
-/// A text is refused by its first line, else at the first fault of its tokens, else at the first construct that breaks a static
+/// A text is refused by its first line, else at the first error of its tokens, else at the first construct that breaks a static
 /// rule.
 pub fn refusals_agree()
     ensures { RefusalsAgree }
 {}
 
-/// Each text has one reading or one fault, and none has both; what is read is lawful.
+/// Each text has one reading or one error, and none has both; what is read is lawful.
 pub fn readings_agree()
     ensures { ReadingsAgree }
 {}

@@ -1,4 +1,4 @@
-//! Laws of reading C: each text has one reading or one first fault, and recursive descent finds it.
+//! Laws of reading C: each text has one reading or one first error, and recursive descent finds it.
 #![tactic(auto)]
 
 mod agreement;

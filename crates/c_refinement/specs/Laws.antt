@@ -11,7 +11,7 @@ use Rattle.c_refinement.specs.Routines.{RefinesRoutine, RefinesStmts, IsSteadySc
 
 -- ---- From procedures
 
--- the procedure of a name is kept, and stands at its place
+-- the procedure of a name is kept, and is at its place
 pub record KeepsNamed (place : ℕ → ℕ) (keeps : ℕ → Bool) (p q : ProgramTree)
     (name : List ℕ) : Type 0 where
   pub kept : keeps (unwrap_or (procedure_named p name) 0) ≡ true

@@ -6,7 +6,7 @@ use Rattle.c_semantics.specs.Cells.{Cells}
 use Rattle.c_semantics.specs.Machine.{LoggedCall, After, Outcome, done, stuck, call_from_outside}
 use Rattle.c_semantics.specs.Rows.{TickRow, Rows, c_rows, start_run}
 
--- where the procedures of the one program stand in the other
+-- where the procedures of the one program are in the other
 module _ (place : ℕ → ℕ) where
   -- a call in the other program
   abbrev pub placed_call : LoggedCall → LoggedCall

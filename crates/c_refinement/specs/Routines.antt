@@ -6,7 +6,7 @@ use Rattle.c_semantics.specs.Machine.{Outcome, done, stuck, Routine, routine_at,
 use Rattle.c_refinement.specs.Evaluations.{AreSteady}
 use Rattle.c_refinement.specs.Refinement.{Refines, in_place}
 
--- where the procedures of the one program stand in the other
+-- where the procedures of the one program are in the other
 module _ (place : ℕ → ℕ) where
   -- from any fields and any count of steps, and the other from a lower one
   pub record RefinesRoutine (r other : Routine) : Type 0 where

@@ -22,7 +22,7 @@ fails-then Memory r next whole is h = tt
 abbrev pub pure_scope : Known → List (List ℕ) → Names
 pure_scope known params = record { known = known; of = None; fields = []; params = params }
 
--- a step behind another, and what comes of both
+-- a step after another, and what comes of both
 pub then-bind : {A B C E : Type 0} (r : Result A E) (next : Result B E) (go : B → Result C E) →
     (r >> (next >>= go)) ≡ ((r >> next) >>= go)
 then-bind (Ok x) next go = refl

@@ -89,7 +89,7 @@ module _ (known : Known) (is_root : Bool) (numbers : List (List ℕ)) where
       (λ y. resolve_fields known is_root numbers (f.name ∷ reverse names) fs >>= (λ xs. Ok (y ∷ xs))) fault
       (ap (on_line f.line) (flip-field names f) ∙ h))
 
-  -- behind no fields stand those of the rules
+  -- after no fields come those of the rules
   pub behind_none : (fields : List Field) (fs : List WrittenField) → fields ≡ [] →
       fields_behind known is_root numbers (field_trees fields) (map (λ (f : Field). f.name) fields) fs
       ≡ resolve_fields known is_root numbers [] fs

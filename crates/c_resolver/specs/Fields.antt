@@ -18,7 +18,7 @@ abbrev pub named_kind : List ℕ → Result FieldKind CKind → Result FieldTree
 named_kind name (Ok kind) = Ok (record { name = name; kind = kind })
 named_kind name (Err kind) = Err kind
 
--- fields of these names, in order, and behind them what more fields stand for
+-- fields of these names, in order, and after them what more fields stand for
 abbrev pub fields_behind : Known → Bool → (numbers : List (List ℕ)) → List FieldTree →
     (names : List (List ℕ)) → List WrittenField → Result (List FieldTree) CFault
 fields_behind known is_root numbers fields names written = do

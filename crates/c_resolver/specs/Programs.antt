@@ -12,7 +12,7 @@ abbrev pub program_with : Known → ProgramTree
 program_with known =
     record { pures = known.pures; structs = known.structs; procedures = known.procedures }
 
--- the program that definitions behind what is known stand for, where the root's are among them;
+-- the program that definitions after what is known stand for, where the root's are among them;
 -- `last` is the text's last line
 abbrev pub program_behind : ℕ → Known → WrittenProgram → Result ProgramTree CFault
 program_behind last known p = do

@@ -38,7 +38,7 @@ pub(crate) fn resolve_store(scope: &Scope, name: &[u8], cast: CType) -> Result<u
     Ok(field)
 }
 
-/// The position of the array that a store behind an index, by this cast, goes to.
+/// The position of the array that a store after an index, by this cast, goes to.
 pub(crate) fn resolve_item_store(scope: &Scope, name: &[u8], cast: CType) -> Result<u32, CKind>
     ensures { result ≡ rules.resolve_item_store (names_of scope.now) name.now cast }
 {
@@ -48,7 +48,7 @@ pub(crate) fn resolve_item_store(scope: &Scope, name: &[u8], cast: CType) -> Res
     Ok(field)
 }
 
-/// The target of a call, with the kind of what stands there.
+/// The target of a call, with the kind of what is there.
 fn resolve_target(scope: &Scope, target: WrittenTarget) -> Result<(Target, FieldKind), CKind>
     ensures { result ≡ rules.resolve_target (names_of scope.now) (target_of target.entry) }
 {

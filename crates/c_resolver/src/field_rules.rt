@@ -82,7 +82,7 @@ fn resolve_kind(known: &Known, kind: WrittenKind) -> Result<FieldKind, CKind>
     }
 }
 
-/// What the kind of a field stands for, where the field keeps the rules behind these fields.
+/// What the kind of a field stands for, where the field keeps the rules after these fields.
 pub(crate) fn resolve_field(
     known: &Known,
     is_root: bool,

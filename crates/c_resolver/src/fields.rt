@@ -104,7 +104,7 @@ pub(crate) fn resolve_leaf(scope: &Scope, leaf: WrittenLeaf) -> Result<Leaf, CKi
     }
 }
 
-/// The position of the own array that an index stands behind.
+/// The position of the own array that an index comes after.
 pub(crate) fn resolve_array(scope: &Scope, name: &[u8]) -> Result<u32, CKind>
     ensures { result ≡ rules.resolve_array (names_of scope.now) name.now }
 {

@@ -76,7 +76,7 @@ fn resolve_definitions<'a>(
     Ok(program_of(mem::replace(known, nothing_known(alloc))))
 }
 
-/// What a written program stands for; the last line of its text is where a missing root is told.
+/// What a written program stands for; at the last line of its text a missing root is reported.
 pub fn resolve_program(alloc: Global, last: u32, p: &WrittenProgram) -> Result<Program, ReadCFault>
     ensures resolved { Gives program_tree result (rules.resolve_program last (written.program_of p.now)) }
     ensures few { IfOk result (λ program. length program.procedures.items < 2 ^ 32) }

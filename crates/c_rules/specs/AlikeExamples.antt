@@ -44,6 +44,6 @@ nested = refl
 slashed : is_alike (codes "/* a// */\n") ≡ false
 slashed = refl
 
--- the end of a comment behind a `/`
+-- the end of a comment after a `/`
 closed_late : is_alike (codes "/* a/*/\n") ≡ false
 closed_late = refl

@@ -1,6 +1,6 @@
 -- Texts whose tokens C99 reads as this reader does, by the first three phases of its translation
 -- (C99, 5.1.1.2): there is no trigraph, no joined line and no comment up to a line's end, no two
--- signs that C99 takes for another token, and each comment stands apart and holds nothing that
+-- signs that C99 takes for another token, and each comment is apart and holds nothing that
 -- could end it earlier. In the grammar no word follows a number, so numbers are read alike.
 use Rattle.std.specs.Prelude.{ℕ, zero, suc, ◌+◌, ◌-◌, Bool, true, false, not, ◌&&◌, ◌==◌, nat_le, if◌then◌else◌, List, [], ◌∷◌, take, drop, Option, Some, None, codes}
 use Rattle.std.specs.List.{list_all, list_any}
@@ -16,7 +16,7 @@ is_joining b = list_any (λ sign. sign == b) (codes "!#%&*+-/:<=>?^|")
 abbrev pub joins : ℕ → ℕ → Bool
 joins b c = is_joining c && (is_joining b && not (is_double_sign b c))
 
--- what joins a line to the next one, where it stands last
+-- what joins a line to the next one, where it is last
 abbrev pub is_splice : ℕ → Bool
 is_splice b = b == 92
 
@@ -26,7 +26,7 @@ is_splice b = b == 92
 abbrev pub is_quiet : ℕ → Bool
 is_quiet b = nat_le 32 b && not (b == 127) && not (b == 42) && not (is_splice b) && not (b == 63)
 
--- no `/` stands next to another, or last, where the comment's end would follow it
+-- no `/` is next to another, or last, where the comment's end would follow it
 abbrev pub slashes_apart : List ℕ → Bool
 slashes_apart [] = true
 slashes_apart (b ∷ []) = not (b == 47)
@@ -37,13 +37,13 @@ abbrev pub is_apart : List ℕ → Bool
 is_apart [] = true
 is_apart (b ∷ bs) = is_white_space b
 
--- from behind the `/*` of a comment on, whose end is so many bytes away
+-- from after the `/*` of a comment on, whose end is so many bytes away
 abbrev pub is_quiet_comment : Option ℕ → List ℕ → Bool
 is_quiet_comment None bs = false
 is_quiet_comment (Some n) bs =
     list_all is_quiet (take (n - 2) bs) && slashes_apart (take (n - 2) bs) && is_apart (drop n bs)
 
--- whether a comment begins with a byte and those behind it, and how many of these it has
+-- whether a comment begins with a byte and those after it, and how many of these it has
 abbrev pub begins_comment : ℕ → List ℕ → Bool
 begins_comment b [] = false
 begins_comment b (c ∷ cs) = (b == 47) && (c == 42)
@@ -57,7 +57,7 @@ comment_rest b bs = if begins_comment b bs then after_star (comment_end (drop 1 
 
 -- ---- The whole
 
--- a byte between these: a comment that stands apart begins there, or nothing that C99 reads
+-- a byte between these: a comment that is apart begins there, or nothing that C99 reads
 -- otherwise
 abbrev pub is_alike_at : (before b : ℕ) → List ℕ → Bool
 is_alike_at before b [] = not (is_splice b)
@@ -66,7 +66,7 @@ is_alike_at before b (c ∷ cs) =
     then is_white_space before && is_quiet_comment (comment_end cs) cs
     else not (is_splice b) && not (joins b c)
 
--- behind a byte, of a text whose first `skip` bytes belong to a comment
+-- after a byte, of a text whose first `skip` bytes belong to a comment
 abbrev pub is_alike_from : (skip before : ℕ) → List ℕ → Bool
 is_alike_from skip before [] = true
 is_alike_from zero before (b ∷ bs) =

@@ -4,7 +4,7 @@ use Rattle.c_syntax.specs.declared.fault.CFault.{CFault}
 use Rattle.c_grammar.specs.declared.fault.ReadCFault.{ReadCFault}
 use Rattle.c_grammar.specs.declared.fault.ReadCFault.TheVariants.{Refused, Memory}
 
--- this is the fault, unless memory ran out
+-- this is the error, unless memory ran out
 abbrev pub Fails : {B : Type 0} → ReadCFault → Result B CFault → Type 0
 Fails (Refused fault) ruled = ruled ≡ Err fault
 Fails Memory ruled = ⊤

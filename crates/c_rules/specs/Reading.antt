@@ -1,4 +1,4 @@
--- The program of a text, and the first fault of a text that has none.
+-- The program of a text, and the first error of a text that has none.
 use Rattle.std.specs.Prelude.{◌≡◌, ℕ, Bool, true, false, List, Option, Some, None, Ok, Err}
 use Rattle.c_syntax.specs.declared.fault.CFault.{CFault}
 use Rattle.c_syntax.specs.declared.fault.CKind.TheVariants.{Syntax}
@@ -20,20 +20,20 @@ pub record CText (bytes : List ℕ) (p : ProgramTree) : Type 0 where
   pub resolved : resolve_program (last_line bytes) written ≡ Ok p
   pub limits : IsWithinLimits p
 
--- where no token has a fault, the first construct of the written program that breaks a static rule
+-- where no token has an error, the first construct of the written program that breaks a static rule
 abbrev pub IsRuleFault : Option CFault → List ℕ → CFault → Type 0
 IsRuleFault (Some first) bytes fault = fault ≡ first
 IsRuleFault None bytes fault =
     (written : WrittenProgram) × Spells (tokens_of bytes) written
     × (resolve_program (last_line bytes) written ≡ Err fault)
 
--- the first fault behind a first line that is right, or the fault of the first line
+-- the first error after a first line that is right, or the error of the first line
 abbrev pub IsFaultBehind : Bool → List ℕ → CFault → Type 0
 IsFaultBehind false bytes fault = fault ≡ fault_at 1 Syntax
 IsFaultBehind true bytes fault =
     IsRuleFault (token_fault file_needs (last_line bytes) (tokens_of bytes)) bytes fault
 
--- the bytes are no text of a program, and this is their first fault
+-- the bytes are no text of a program, and this is their first error
 abbrev pub CFaultOf : List ℕ → CFault → Type 0
 CFaultOf bytes fault = IsFaultBehind (has_header bytes) bytes fault
 

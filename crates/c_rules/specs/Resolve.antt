@@ -21,17 +21,17 @@ use Rattle.c_grammar.specs.Prefix.{fault_at}
 use Rattle.c_syntax.specs.Chains.{chain_limit, stmts_chain}
 use Rattle.base_core.specs.Results.{◌>>=◌, ◌>>◌}
 
--- a fault of this kind, unless the test passes
+-- an error of this kind, unless the test passes
 abbrev pub unless_fault : Bool → CKind → Result (Unit {0}) CKind
 unless_fault true kind = Ok tt
 unless_fault false kind = Err kind
 
--- the result of a rule that stands at a line
+-- the result of a rule that is at a line
 abbrev pub on_line : {A : Type 0} → ℕ → Result A CKind → Result A CFault
 on_line line (Ok result) = Ok result
 on_line line (Err kind) = Err (fault_at line kind)
 
--- what an option holds, or a fault on names
+-- what an option holds, or an error on names
 abbrev pub or_unnamed : {A : Type 0} → Option A → Result A CKind
 or_unnamed (Some x) = Ok x
 or_unnamed None = Err Name
@@ -118,7 +118,7 @@ resolve_leaf names (WrittenLeaf.child name inner) = do
   type ← as_number inner_field.1
   Ok (Child field.0 inner_field.0)
 
--- an index stands behind an array of the own struct
+-- an index comes after an array of the own struct
 abbrev pub resolve_array : Names → List ℕ → Result ℕ CKind
 resolve_array names name = do
   field ← field_named names.fields name
@@ -210,7 +210,7 @@ resolve_store names name cast = do
   unless_fault (same_type type cast) TypeRule
   Ok field.0
 
--- a store behind an index goes to an array, by a cast to the type of its items
+-- a store after an index goes to an array, by a cast to the type of its items
 abbrev pub resolve_item_store : Names → List ℕ → CType → Result ℕ CKind
 resolve_item_store names name cast = do
   field ← field_named names.fields name
@@ -218,7 +218,7 @@ resolve_item_store names name cast = do
   unless_fault (same_type type cast) TypeRule
   Ok field.0
 
--- the target of a call, with the kind of what stands there
+-- the target of a call, with the kind of what is there
 abbrev pub resolve_target : Names → WrittenTarget → Result (Target × FieldKind) CKind
 resolve_target names WrittenTarget.own_target = do
   k ← or_unnamed names.of
@@ -418,7 +418,7 @@ has_root known =
     && has_name (map (λ p. p.name) known.procedures) (codes "root_start")
     && has_name (map (λ p. p.name) known.procedures) (codes "root_step")
 
--- the program that a written program stands for, or its first fault; `last` is the text's last line
+-- the program that a written program stands for, or its first error; `last` is the text's last line
 abbrev pub resolve_program : ℕ → WrittenProgram → Result ProgramTree CFault
 resolve_program last p = do
   with_pures ← resolve_pures (record { pures = []; structs = []; procedures = []; chains = [] })

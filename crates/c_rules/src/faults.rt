@@ -1,18 +1,18 @@
-// Faults of rules, and where they stand.
+// Errors of rules, and where they are.
 ghost use Rattle.std.specs.Prelude.{◌≡◌};
 ghost use Rattle.c_grammar.specs.Prefix as prefix;
 ghost use Rattle.c_rules.specs.Resolve as rules;
 
 use c_syntax::{CFault, CKind};
 
-/// The fault of a rule that stands on a line.
+/// The error of a rule that is on a line.
 pub fn fault_at(line: u32, kind: CKind) -> CFault
     ensures { result ≡ prefix.fault_at line kind }
 {
     CFault { line, kind }
 }
 
-/// The answer of a rule that stands on a line.
+/// The answer of a rule that is on a line.
 pub fn on_line<T>(line: u32, ruled: Result<T, CKind>) -> Result<T, CFault>
     ensures { result ≡ rules.on_line line ruled }
 {
@@ -22,7 +22,7 @@ pub fn on_line<T>(line: u32, ruled: Result<T, CKind>) -> Result<T, CFault>
     }
 }
 
-/// A fault of this kind, unless a rule is kept.
+/// An error of this kind, unless a rule is kept.
 pub fn unless_fault(is_kept: bool, kind: CKind) -> Result<(), CKind>
     ensures { result ≡ rules.unless_fault is_kept kind }
 {

@@ -41,7 +41,7 @@ abbrev pub ArgumentsArePassed : Type 0
 ArgumentsArePassed = (functions : List Function) (leaf : Reads) (line steps : ℕ) →
     PassesInOrder functions leaf line steps
 
--- what the arguments of a call come to behind the step of its statement, on these fields
+-- what the arguments of a call come to after the step of its statement, on these fields
 abbrev pub passed_in : Scope → Cells → (line steps procedure : ℕ) → ExprTrees → Answer (List ℤ)
 passed_in scope cells line steps procedure es =
     arguments scope.functions (reads scope.values cells) line
@@ -118,8 +118,8 @@ abbrev pub cells_left : Outcome → Cells
 cells_left (done a) = a.cells
 cells_left (stuck at cells) = cells
 
--- A call on the instance in a field, behind its step and its arguments, does to that instance what
--- the routine does with its fields: what it leaves stands in the field, and the calls and stores in
+-- A call on the instance in a field, after its step and its arguments, does to that instance what
+-- the routine does with its fields: what it leaves is in the field, and the calls and stores in
 -- it are seen from the own instance under that field. No other field is changed, whatever the call
 -- comes to.
 pub record CallsChild (scope : Scope) (line procedure field : ℕ) (es : ExprTrees) (cells : Cells)

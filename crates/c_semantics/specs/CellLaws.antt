@@ -1,4 +1,4 @@
--- What stands in fields, and in an array, of which one is set.
+-- What is in fields, and in an array, of which one is set.
 use Rattle.std.specs.Prelude.{◌≡◌, ◌≢◌, ℕ, suc, ◌<◌, List, length, ℤ}
 use Rattle.c_semantics.specs.Cells.{Cell, Cells, no_cells, more_cells, cell_at, set_cell, set_item}
 use Rattle.base_core.specs.Numbers.{int_at}
@@ -8,7 +8,7 @@ abbrev pub cells_count : Cells → ℕ
 cells_count no_cells = 0
 cells_count (more_cells c cs) = suc (cells_count cs)
 
--- A field that is set, where there is one, holds what was put there, and each other holds what it
+-- A field that is set, where there is one, holds what was written there, and each other holds what it
 -- held. Setting what is there changes nothing, setting again replaces, and the order in which two
 -- fields are set is free.
 pub record IsFieldSet (cells : Cells) (f : ℕ) (c : Cell) : Type 0 where
@@ -23,7 +23,7 @@ pub record IsFieldSet (cells : Cells) (f : ℕ) (c : Cell) : Type 0 where
 abbrev pub FieldsAreSet : Type 0
 FieldsAreSet = (cells : Cells) (f : ℕ) (c : Cell) → IsFieldSet cells f c
 
--- The same of an array: an item that is set is what was put there, and each other is what it was.
+-- The same of an array: an item that is set is what was written there, and each other is what it was.
 pub record IsItemSet (values : List ℤ) (i : ℕ) (v : ℤ) : Type 0 where
   pub here : i < length values → int_at (set_item values i v) i ≡ v
   pub others : (j : ℕ) → i ≢ j → int_at (set_item values i v) j ≡ int_at values j

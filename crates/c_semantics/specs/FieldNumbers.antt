@@ -1,5 +1,5 @@
 -- Another numbering of the own fields: code that names each field by its new number does the same
--- to fields that stand there.
+-- to fields that are there.
 use Rattle.std.specs.Prelude.{◌≡◌, ◌↔◌, ℕ, ◌<◌, List, [], ◌∷◌, map, ℤ}
 use Rattle.c_syntax.specs.declared.code.CType.{CType}
 use Rattle.c_syntax.specs.declared.code.Leaf.{Leaf}
@@ -13,7 +13,7 @@ use Rattle.c_semantics.specs.Machine.{LoggedCall, StoredField, Outcome, done, st
 use Rattle.c_semantics.specs.CellLaws.{cells_count}
 use Rattle.c_semantics.specs.NumberingLaws.{AllCalls}
 
--- where each own field stands
+-- where each own field is
 module _ (place : ℕ → ℕ) where
   -- ---- Code
 
@@ -52,7 +52,7 @@ module _ (place : ℕ → ℕ) where
 
   -- ---- What is done
 
-  -- each own field, with all that is in it, stands at its new place
+  -- each own field, with all that is in it, is at its new place
   pub record ArePlaced (cells others : Cells) : Type 0 where
     pub stands : (f : ℕ) → cell_at others (place f) ≡ cell_at cells f
     pub there : (f : ℕ) → (f < cells_count cells) ↔ (place f < cells_count others)
@@ -91,7 +91,7 @@ module _ (place : ℕ → ℕ) where
       EndPlaced (r.run values cells steps) (q.run values others steps))
   DoesPlaced (ChildTarget f) r q = r ≡ q
 
--- Code with other numbers of the own fields does the same to fields that stand at these numbers,
+-- Code with other numbers of the own fields does the same to fields that are at these numbers,
 -- whose types are there too, where no two fields have one number, and what it calls does.
 abbrev pub FieldNumbersAreFree : Type 0
 FieldNumbersAreFree =

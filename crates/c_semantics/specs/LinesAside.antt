@@ -1,4 +1,4 @@
--- What two programs that differ in lines alone have in common: all that they do, but for the line
+-- What two programs that differ in lines alone have in common: all that they do, except for the line
 -- where one is stuck.
 use Rattle.std.specs.Prelude.{◌≡◌, ℕ, ℤ, List, option_map}
 use Rattle.c_syntax.specs.declared.fault.Stuck.{Stuck}

@@ -76,7 +76,7 @@ call_under f c = record { path = f ∷ c.path; procedure = c.procedure }
 abbrev pub store_under : ℕ → StoredField → StoredField
 store_under f s = record { path = f ∷ s.path; field = s.field }
 
--- an execution in the instance at a field: what it leaves stands in that field
+-- an execution in the instance at a field: what it leaves is in that field
 abbrev pub in_child : ℕ → Cells → Outcome → Outcome
 in_child f cells (done a) =
     done (record {
@@ -102,7 +102,7 @@ pub record Routine : Type 0 where
   pub params : List CType
   pub run : List ℤ → Cells → ℕ → Outcome
 
--- a procedure that does nothing: what stands past the end of a list, where no lawful program calls
+-- a procedure that does nothing: what is past the end of a list, where no lawful program calls
 abbrev pub no_routine : Routine
 no_routine =
     record {

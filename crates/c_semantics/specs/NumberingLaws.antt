@@ -38,7 +38,7 @@ CodeSeesWhatItCalls =
 -- ---- Another numbering
 
 abbrev mutual
-  -- a statement is another but for the numbers of the procedures that both call, which are related
+  -- a statement is another except for the numbers of the procedures that both call, which are related
   -- by R
   pub IsRenumbered : (ℕ → ℕ → Type 0) → StmtTree → StmtTree → Type 0
   IsRenumbered R (assign line f e) other = assign line f e ≡ other
@@ -56,7 +56,7 @@ abbrev mutual
       (t : StmtTree) × (ts : StmtTrees) × (more_stmts t ts ≡ others) × IsRenumbered R s t
       × AreRenumbered R ss ts
 
--- code with other numbers does the same among procedures that stand under those numbers
+-- code with other numbers does the same among procedures that are under those numbers
 abbrev pub ProcedureNumbersAreFree : Type 0
 ProcedureNumbersAreFree =
     (scope : Scope) (routines : List Routine) (stmts others : StmtTrees) (cells : Cells)
@@ -66,7 +66,7 @@ ProcedureNumbersAreFree =
 
 -- ---- The procedures of a program
 
--- Procedures that stand behind earlier ones: each is numbered by its place, and sees those before
+-- Procedures that come after earlier ones: each is numbered by its place, and sees those before
 -- it alone. What is found at a place is found there among the first procedures too, so that code
 -- which calls none but those does the same among them.
 pub record StandInOrder (structs : List StructTree) (functions : List Function)

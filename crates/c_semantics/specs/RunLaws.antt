@@ -1,4 +1,4 @@
--- What statements do: one list behind another, a store, a store in an item of an array, and a test.
+-- What statements do: one list after another, a store, a store in an item of an array, and a test.
 use Rattle.std.specs.Prelude.{◌≡◌, ◌≢◌, ℕ, ◌+◌, ◌<◌, ◌≤◌, Bool, true, false, [], ◌∷◌, ◌++◌, length, ℤ, pos}
 use Rattle.c_syntax.specs.declared.fault.Stuck.{Stuck}
 use Rattle.c_syntax.specs.declared.fault.Why.TheVariants.{Range, Steps, Index}
@@ -10,8 +10,8 @@ use Rattle.c_semantics.specs.Machine.{After, Outcome, done, stuck, then_run, Sco
 -- ---- Sequences
 
 -- No statement leaves all as it is, and a statement alone does what it does. Of two lists, one
--- behind the other, the second goes on from the fields and the count of steps that the first
--- leaves, and its calls and stores come behind those of the first; where the first is stuck,
+-- after the other, the second goes on from the fields and the count of steps that the first
+-- leaves, and its calls and stores come after those of the first; where the first is stuck,
 -- nothing of the second is done.
 pub record RunsInOrder (scope : Scope) (cells : Cells) (steps : ℕ) : Type 0 where
   pub nothing : run_stmts scope no_stmts cells steps
@@ -53,7 +53,7 @@ after_store cells steps field =
       stores = record { path = []; field = field } ∷ [];
     })
 
--- what an expression comes to behind the step of its statement, on these fields
+-- what an expression comes to after the step of its statement, on these fields
 abbrev pub value_in : Scope → Cells → (line steps : ℕ) → ExprTree → Answer ℤ
 value_in scope cells line steps e = eval scope.functions (reads scope.values cells) line e steps
 
@@ -124,7 +124,7 @@ ItemsAreStored =
 
 -- ---- Tests
 
--- what a condition comes to behind the step of its statement, on these fields
+-- what a condition comes to after the step of its statement, on these fields
 abbrev pub test_in : Scope → Cells → (line steps : ℕ) → CondTree → Answer Bool
 test_in scope cells line steps c = eval_cond scope.functions (reads scope.values cells) line c steps
 

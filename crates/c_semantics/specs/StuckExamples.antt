@@ -1,5 +1,5 @@
--- Calls and stores that C leaves undefined or would wrap are stuck where they stand, and so is the
--- step behind the last one allowed.
+-- Calls and stores that C leaves undefined or would wrap are stuck where they are, and so is the
+-- step after the last one allowed.
 use Rattle.std.specs.Prelude.{◌≡◌, ℕ, ◌-◌, ◌^◌, ℤ, pos, negsuc, [], ◌∷◌, refl}
 use Rattle.c_syntax.specs.declared.code.BinOp.TheVariants.{Add, Div, Rem}
 use Rattle.c_syntax.specs.declared.code.CType.TheVariants.{I8}

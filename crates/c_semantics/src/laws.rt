@@ -6,19 +6,19 @@ ghost use Rattle.c_semantics.specs.LinesAside.{LinesMeanNothing};
 ghost use Rattle.c_semantics.specs.NumberingLaws.{CodeSeesWhatItCalls, ProcedureNumbersAreFree, ProceduresStandInOrder};
 ghost use Rattle.c_semantics.specs.RunLaws.{ItemsAreStored, NumbersAreStored, SequencesRunInOrder, TestsChooseBranches};
 
-/// Programs that differ in the lines of their statements alone do the same at each call, but for the line at which they are
-/// stuck.
+/// Programs that differ in the lines of their statements alone do the same at each call, except for the line at which they
+/// are stuck.
 pub fn lines_mean_nothing()
     ensures { LinesMeanNothing }
 {}
 
-/// Of two lists of statements, one behind the other, the second goes on from where the first ends, and their calls and stores
-/// come one behind the other; where the first is stuck, nothing of the second is done.
+/// Of two lists of statements, one after the other, the second goes on from where the first ends, and their calls and stores
+/// come one after the other; where the first is stuck, nothing of the second is done.
 pub fn sequences_run_in_order()
     ensures { SequencesRunInOrder }
 {}
 
-/// A store takes a step, evaluates its value and puts it into the field, and changes nothing else. It is stuck where the value
+/// A store takes a step, evaluates its value and writes it to the field, and changes nothing else. It is stuck where the value
 /// is, and at a number that isn't of the field's type.
 pub fn numbers_are_stored()
     ensures { NumbersAreStored }
@@ -56,12 +56,12 @@ pub fn code_sees_what_it_calls()
     ensures { CodeSeesWhatItCalls }
 {}
 
-/// Code that calls procedures by other numbers does the same among procedures that stand under those numbers.
+/// Code that calls procedures by other numbers does the same among procedures that are under those numbers.
 pub fn procedure_numbers_are_free()
     ensures { ProcedureNumbersAreFree }
 {}
 
-/// Code that names its own fields by other numbers does the same to fields that stand at those.
+/// Code that names its own fields by other numbers does the same to fields that are at those.
 pub fn field_numbers_are_free()
     ensures { FieldNumbersAreFree }
 {}
@@ -71,12 +71,12 @@ pub fn procedures_stand_in_order()
     ensures { ProceduresStandInOrder }
 {}
 
-/// A field that is set holds what was put there, and no other changes.
+/// A field that is set holds what was written there, and no other changes.
 pub fn fields_are_set()
     ensures { FieldsAreSet }
 {}
 
-/// An item of an array that is set is what was put there, and no other changes.
+/// An item of an array that is set is what was written there, and no other changes.
 pub fn items_are_set()
     ensures { ItemsAreSet }
 {}

@@ -91,7 +91,7 @@ fn stored<'a>(reader: Reader, tokens: &Tokens<'a>) -> Parse<'a, Argument<'a>>
     Ok((stored, rest))
 }
 
-// A store behind the name of its field: in the field, or in an item of it.
+// A store after the name of its field: in the field, or in an item of it.
 fn store_in<'a>(
     reader: Reader,
     token: &Token<'a>,
@@ -111,7 +111,7 @@ fn store_in<'a>(
     Ok((build::store_at(token.line, field, index, stored), rest))
 }
 
-/// A store behind its `s`.
+/// A store after its `s`.
 pub(crate) fn store<'a>(
     reader: Reader,
     token: &Token<'a>,
@@ -124,7 +124,7 @@ pub(crate) fn store<'a>(
     store_in(reader, token, field, rest)
 }
 
-/// A call behind the procedure's name.
+/// A call after the procedure's name.
 pub(crate) fn call<'a>(
     reader: Reader,
     token: &Token<'a>,

@@ -118,7 +118,7 @@ pub fn block<'a>(
     statements(reader, levels, rest)
 }
 
-// The rest of a choice behind its first block.
+// The rest of a choice after its first block.
 #[cycle(statements)]
 fn second<'a>(
     reader: Reader,

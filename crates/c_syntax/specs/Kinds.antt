@@ -1,4 +1,4 @@
--- Kinds of fields as they are written: an array with its length as it stands, a struct by its name.
+-- Kinds of fields as they are written: an array with its length as written, a struct by its name.
 use Rattle.std.specs.Prelude.{ℕ, List}
 use Rattle.c_syntax.specs.declared.code.CType.{CType}
 

@@ -124,7 +124,7 @@ procedure_names procedures = map (λ p. p.name) procedures
 abbrev pub param_names : List ParamTree → List (List ℕ)
 param_names params = map (λ p. p.name) params
 
--- a pure function behind these: its parameters differ from each other and from the earlier
+-- a pure function after these: its parameters differ from each other and from the earlier
 -- functions, and there is one
 pub record IsLawfulPure (earlier : List PureTree) (p : PureTree) : Type 0 where
   pub params : AreDistinct p.params
@@ -139,7 +139,7 @@ pub record IsLawfulPure (earlier : List PureTree) (p : PureTree) : Type 0 where
     of = 0;
   }) p.body
 
--- pure functions, each behind these and those before it
+-- pure functions, each after these and those before it
 abbrev pub ArePures : List PureTree → List PureTree → Type 0
 ArePures earlier [] = ⊤
 ArePures earlier (p ∷ ps) = IsLawfulPure earlier p × ArePures (earlier ++ p ∷ []) ps
@@ -150,7 +150,7 @@ IsLawfulKind count (Number type) = ⊤
 IsLawfulKind count (Array type many) = (0 < many) × (many < 2 ^ 16)
 IsLawfulKind count (Struct k) = k < count
 
--- a struct behind `count` others; a field of the root's struct is an output or looks like none
+-- a struct after `count` others; a field of the root's struct is an output or looks like none
 pub record IsLawfulStruct (count : ℕ) (d : StructTree) : Type 0 where
   pub fields : AreDistinct (map (λ f. f.name) d.fields)
   pub some : 0 < length d.fields
@@ -159,12 +159,12 @@ pub record IsLawfulStruct (count : ℕ) (d : StructTree) : Type 0 where
       AllByRecursion (λ f. may_be_named (number_names d.fields) (is_number f) f.name
       ≡ true) d.fields
 
--- structs, each behind so many and those before it
+-- structs, each after so many and those before it
 abbrev pub AreStructs : ℕ → List StructTree → Type 0
 AreStructs count [] = ⊤
 AreStructs count (d ∷ ds) = IsLawfulStruct count d × AreStructs (count + 1) ds
 
--- a procedure behind these
+-- a procedure after these
 pub record IsLawfulProcedure (pures : List PureTree) (structs : List StructTree)
     (earlier : List ProcedureTree) (p : ProcedureTree) : Type 0 where
   pub of : p.of < length structs
@@ -179,7 +179,7 @@ pub record IsLawfulProcedure (pures : List PureTree) (structs : List StructTree)
     of = p.of;
   }) p.body
 
--- procedures, each behind these and those before it
+-- procedures, each after these and those before it
 abbrev pub AreProcedures : List PureTree → List StructTree → List ProcedureTree →
     List ProcedureTree → Type 0
 AreProcedures pures structs earlier [] = ⊤

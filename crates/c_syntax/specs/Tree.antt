@@ -127,7 +127,7 @@ abbrev pub stmts_of_list : List StmtTree → StmtTrees
 stmts_of_list [] = no_stmts
 stmts_of_list (s ∷ ss) = more_stmts s (stmts_of_list ss)
 
--- one list of statements behind another
+-- one list of statements after another
 abbrev pub stmts_append : StmtTrees → StmtTrees → StmtTrees
 stmts_append no_stmts later = later
 stmts_append (more_stmts s ss) later = more_stmts s (stmts_append ss later)

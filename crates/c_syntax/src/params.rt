@@ -6,7 +6,7 @@ use std::alloc::Global;
 
 /// A copy of parameters.
 ///
-/// Fails only for want of memory.
+/// Fails only when memory runs out.
 pub fn copied_params(alloc: Global, params: &[(Text, CType)]) -> Result<Vec<(Text, CType)>, Memory>
     ensures { IfOk result (λ v. v.items ≡ params.now) }
 {

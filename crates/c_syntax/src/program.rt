@@ -63,13 +63,13 @@ pub struct Procedure {
     pub private: bool,
     /// The position of the struct whose instances it is called on.
     pub of: u32,
-    /// The names and types of its parameters behind `s`.
+    /// The names and types of its parameters after `s`.
     pub params: Vec<(Text, CType)>,
     /// Its statements, in their order.
     pub body: Vec<Stmt>,
 }
 
-/// A program. What stands in it uses only what stands before it.
+/// A program. What is in it uses only what is before it.
 #[derive(Drop)]
 pub struct Program {
     /// The pure functions.

@@ -1,4 +1,4 @@
--- Each list continues behind an element.
+-- Each list continues after an element.
 use Rattle.std.proofs.Common.{◌≡◌, refl, sym, ◌∙◌, ap, ℕ, zero, suc, ◌+◌, ◌<◌, List, ◌∷◌, length, Result, Ok, Err, arith}
 use Rattle.c_syntax.specs.declared.fault.CFault.{CFault}
 use Rattle.c_grammar.specs.Tokens.{Token}

@@ -25,7 +25,7 @@ use Rattle.c_grammar.specs.declared.openers.Want.TheVariants.{Value as want_valu
 pub record Below {X : Type 0} (n : ℕ) (r : Parsed X) : Type 0 where
   pub by : (x : X) (rest : List Token) → r ≡ Ok (x, rest) → length rest < n
 
--- fewer than so many are left behind a further element, and no more than so many at the end
+-- fewer than so many are left after a further element, and no more than so many at the end
 pub record StepBelow {X : Type 0} (n : ℕ) (r : Result (Step X) CFault) : Type 0 where
   pub more : (x : X) (rest : List Token) → r ≡ Ok (one_more x rest) → length rest < n
   pub ends : (rest : List Token) → r ≡ Ok (the_end rest) → length rest ≤ n
@@ -35,7 +35,7 @@ abbrev left_of : {X : Type 0} → ℕ → Parsed X → ℕ
 left_of d (Ok read) = length read.1
 left_of d (Err fault) = d
 
--- how many tokens are left behind a further element
+-- how many tokens are left after a further element
 abbrev left_behind : {X : Type 0} → ℕ → Result (Step X) CFault → ℕ
 left_behind d (Ok (one_more x rest)) = length rest
 left_behind d (Ok (the_end rest)) = length rest

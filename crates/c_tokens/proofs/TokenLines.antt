@@ -1,4 +1,4 @@
--- Tokens behind bytes that are skipped, and the lines that can be told.
+-- Tokens after bytes that are skipped, and the lines that can be reported.
 use Rattle.std.proofs.Common.{◌≡◌, refl, sym, ◌∙◌, subst, ℕ, zero, suc, ◌+◌, ◌-◌, ◌≤◌, ◌<◌, Bool, true, false, not, ◌==◌, ◌&&◌, if◌then◌else◌, min, List, [], ◌∷◌, length, drop, take, arith}
 use Rattle.std.specs.List.{list_all}
 use Rattle.base_core.specs.Numbers.{reported_number}
@@ -28,7 +28,7 @@ told-once n = omega arith
 pub told : (line : ℕ) → line < 4294967296 → reported_number line ≡ line
 told line h = omega (arith, h)
 
--- tokens are the same where lines are told the same
+-- tokens are the same where lines are reported the same
 pub tokens-same : (skip a b : ℕ) (bytes : List ℕ) → Same a b → tokens_from skip a bytes ≡ tokens_from skip b bytes
 tokens-same skip a b [] e = refl
 tokens-same zero a b (c ∷ bytes) e =
@@ -57,7 +57,7 @@ tokens-behind (suc skip) line (c ∷ bytes) few =
 abbrev pub OnOneLine : List ℕ → Type 0
 OnOneLine bytes = list_all (λ b. not (is_line_end b)) bytes ≡ true
 
--- tokens behind them
+-- tokens after them
 pub tokens-behind-line : (skip line : ℕ) (bytes : List ℕ) →
     OnOneLine (take skip bytes) → skip ≤ length bytes → tokens_from skip line bytes ≡ tokens_from 0 line (drop skip bytes)
 tokens-behind-line zero line bytes one few = refl
@@ -70,7 +70,7 @@ tokens-behind-line (suc skip) line (c ∷ bytes) one few = by (c == 10) one (λ 
     by true k later = cc
     by false k later = later k
 
--- the first token of a text, and the tokens behind it
+-- the first token of a text, and the tokens after it
 pub first-token : {self : List Token} (line len first : ℕ) (bytes behind text rest : List ℕ) →
     tokens_from 0 line bytes ≡ self → bytes ≡ first ∷ behind → IsFirstToken len (first ∷ behind) → text ≡ take len bytes →
     rest ≡ drop len bytes → line < 4294967296 → {tokens : List Token} → tokens ≡ tokens_from 0 line rest →

@@ -1,15 +1,15 @@
--- The lists of a C text, and how each continues behind an element.
+-- The lists of a C text, and how each continues after an element.
 use Rattle.std.specs.Prelude.{◌≡◌, ℕ, suc, ◌+◌, ◌<◌, List, ◌∷◌, length, Result, Ok}
 use Rattle.c_syntax.specs.declared.fault.CFault.{CFault}
 use Rattle.c_grammar.specs.Tokens.{Token}
 use Rattle.base_core.specs.Results.{◌>>=◌}
 use Rattle.c_grammar.specs.Parsing.{Limits, Step, one_more, many, parse_operand, values_step, arguments_step, parse_stmt, stmts_step, pure_params_step, params_step, fields_step, pures_step, structs_step, procedures_step}
 
--- how a list goes on behind so many elements: by one more, or by its end
+-- how a list goes on after so many elements: by one more, or by its end
 abbrev pub Stepping : Type 0 → Type 0
 Stepping X = ℕ → List Token → Result (Step X) CFault
 
--- behind an element fewer tokens are left, and the further elements are those of the list that
+-- after an element fewer tokens are left, and the further elements are those of the list that
 -- begins there; `next` is how many came before these
 pub record Continues {X : Type 0} (step : Stepping X) (next : ℕ → ℕ) : Type 0 where
   pub fewer : (count : ℕ) (tokens : List Token) (x : X) (rest : List Token) →

@@ -6,13 +6,13 @@ use Rattle.c_tokens.specs.Lines.{line_behind}
 use Rattle.c_tokens.specs.declared.bytes.Piece.{Piece}
 use Rattle.c_tokens.specs.declared.bytes.Piece.TheVariants.{Blank, Comment, Token}
 
--- bytes without a token, whose tokens are those behind the first so many
+-- bytes without a token, whose tokens are those after the first so many
 abbrev pub IsSkipped : ℕ → List ℕ → Type 0
 IsSkipped len bytes =
     (line : ℕ) → tokens_from 0 line bytes ≡ tokens_from 0 (line_behind line (take len bytes))
     (drop len bytes)
 
--- bytes whose first token is the first so many, with the tokens behind it on the same line
+-- bytes whose first token is the first so many, with the tokens after it on the same line
 abbrev pub IsFirstToken : ℕ → List ℕ → Type 0
 IsFirstToken len bytes =
     (line : ℕ) →

@@ -14,13 +14,15 @@ pub(crate) enum Piece {
     Token(usize),
 }
 
-fn is_white_space(byte: u8) -> bool
+/// Whether a byte is white space: a blank, a tabulator or the end of a line (C99 6.4p3).
+pub fn is_white_space(byte: u8) -> bool
     ensures { result ≡ tokens.is_white_space byte }
 {
     matches!(byte, b' ' | b'\t' | b'\n' | b'\r')
 }
 
-fn is_word_start(byte: u8) -> bool
+/// Whether a byte begins a word: a letter or `_` (C99 6.4.2.1).
+pub fn is_word_start(byte: u8) -> bool
     ensures { result ≡ names.is_word_start byte }
 {
     byte.is_ascii_alphabetic() || byte == b'_'
@@ -58,14 +60,15 @@ fn comment_end(bytes: &[u8]) -> Option<usize>
     None
 }
 
-// How many letters, digits and `_` bytes begin with.
-fn word_len(bytes: &[u8]) -> usize
+/// How many letters, digits and `_` bytes begin with.
+pub fn word_len(bytes: &[u8]) -> usize
     ensures { result ≡ prefix_len names.is_word_byte bytes.now }
 {
     bytes.iter().take_while(|b| is_word_byte(**b)).count()
 }
 
-fn digits_len(bytes: &[u8]) -> usize
+/// How many digits bytes begin with.
+pub fn digits_len(bytes: &[u8]) -> usize
     ensures { result ≡ prefix_len is_ascii_digit bytes.now }
 {
     bytes.iter().take_while(|b| b.is_ascii_digit()).count()
@@ -96,7 +99,7 @@ fn sign_piece(first: u8, rest: &[u8]) -> Piece
     }
 }
 
-/// The first piece of a byte and those behind it.
+/// The first piece of a byte and those after it.
 pub(crate) fn first_piece(first: u8, rest: &[u8]) -> Piece
     ensures { IsPiece result (first ∷ rest.now) }
 {

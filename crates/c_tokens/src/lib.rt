@@ -8,8 +8,9 @@ mod openers;
 mod tokens;
 mod words;
 
+pub use bytes::{digits_len, is_white_space, is_word_start, word_len};
 pub use laws::lists_continue;
-pub use lines::last_line;
+pub use lines::{last_line, line_past};
 pub use openers::{
     comma_of, definition_of, inside_of, opener_of, stmt_opener_of, tail_of, target_opener_of,
     test_joint, value_joint,

@@ -4,8 +4,8 @@ ghost use Rattle.base_core.specs.Numbers.{reported_number};
 ghost use Rattle.c_grammar.specs.Tokens as tokens;
 ghost use Rattle.c_tokens.specs.Lines.{line_behind};
 
-/// The line behind a byte that stands on a line.
-pub(crate) fn line_past(line: u32, byte: u8) -> u32
+/// The line after a byte of a line: the next one after a line end, else the same.
+pub fn line_past(line: u32, byte: u8) -> u32
     ensures { result ≡ reported_number (tokens.line_after byte line) }
 {
     if byte == b'\n' {
@@ -15,7 +15,7 @@ pub(crate) fn line_past(line: u32, byte: u8) -> u32
     }
 }
 
-/// The line behind some bytes that begin on a line.
+/// The line after bytes that begin on a line.
 pub(crate) fn line_behind(line: u32, bytes: &[u8]) -> u32
     ensures { result ≡ line_behind line bytes.now }
 {

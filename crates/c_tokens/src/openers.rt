@@ -24,7 +24,7 @@ pub fn opener_of(want: Want, text: &[u8]) -> Opener
     }
 }
 
-/// What a token behind the `(` of an operand begins.
+/// What a token after the `(` of an operand begins.
 pub fn inside_of(want: Want, text: &[u8]) -> Inside
     ensures { result ≡ parsing.inside_of want text.now }
 {
@@ -39,7 +39,7 @@ pub fn inside_of(want: Want, text: &[u8]) -> Inside
     }
 }
 
-/// What a token behind the name of an own field begins.
+/// What a token after the name of an own field begins.
 pub fn tail_of(text: &[u8]) -> Tail
     ensures { result ≡ parsing.tail_of text.now }
 {
@@ -73,7 +73,7 @@ fn comparison_of(want: Want, text: &[u8]) -> Option<Compare>
     }
 }
 
-/// What a token is behind an expression that is the first operand.
+/// What a token is after an expression that is the first operand.
 pub fn value_joint(want: Want, text: &[u8]) -> ValueJoint
     ensures { result ≡ parsing.value_joint want text.now }
 {
@@ -86,7 +86,7 @@ pub fn value_joint(want: Want, text: &[u8]) -> ValueJoint
     }
 }
 
-/// What a token is behind a condition that is the first operand.
+/// What a token is after a condition that is the first operand.
 pub fn test_joint(want: Want, text: &[u8]) -> TestJoint
     ensures { result ≡ parsing.test_joint want text.now }
 {
@@ -101,7 +101,7 @@ pub fn test_joint(want: Want, text: &[u8]) -> TestJoint
     }
 }
 
-/// What stands between the elements of a list in parentheses, and at its end.
+/// What is between the elements of a list in parentheses, and at its end.
 pub fn comma_of(text: &[u8]) -> Comma
     ensures { result ≡ parsing.comma_of text.now }
 {

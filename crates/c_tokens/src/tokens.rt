@@ -40,14 +40,14 @@ impl<'a> Model for Tokens<'a> {
 }
 
 impl<'a> Tokens<'a> {
-    /// The tokens of these bytes, the first of which stands on this line.
+    /// The tokens of these bytes, the first of which is on this line.
     pub fn new(bytes: &'a [u8], line: u32) -> Tokens<'a>
         ensures { result ≡ tokens_from 0 line bytes.now }
     {
         Tokens { bytes, line }
     }
 
-    /// The first token, and those behind it.
+    /// The first token, and those after it.
     pub fn split_first(&self) -> Option<(Token<'a>, Tokens<'a>)>
         ensures { MatchOption result (self.now ≡ []) (λ split. self.now ≡ split.0 ∷ split.1) }
     {

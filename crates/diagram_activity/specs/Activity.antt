@@ -12,7 +12,7 @@ use Rattle.diagram_activity.specs.declared.memory.TrigMem.TheVariants.{NotYet, L
 abbrev pub is_high : ℤ → Bool
 is_high control = int_lt (pos 0) control
 
--- whether an event stands where the trigger was as the memory says: it was low and is high, it was
+-- whether an event occurs where the trigger was as the memory says: it was low and is high, it was
 -- high and isn't, or either
 abbrev pub edge : Edge → TrigMem → ℤ → Bool
 edge Rising NotYet trigger = false

@@ -5,7 +5,7 @@ use Rattle.base_core.specs.declared.Edge.TheVariants.{Rising, Falling, Either}
 use Rattle.diagram_activity.specs.declared.memory.TrigMem.TheVariants.{NotYet, Low, High}
 use Rattle.diagram_activity.specs.Activity.{active, off, edge, next_memory}
 
--- a trigger of 1, 0, 1, 1 stands at the third tick alone
+-- a trigger of 1, 0, 1, 1 has an event at the third tick alone
 pub first_tick : active true (Triggered Rising) NotYet (pos 0) (pos 1) ≡ false
 first_tick = refl
 

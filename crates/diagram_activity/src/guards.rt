@@ -4,7 +4,7 @@ ghost use Rattle.diagram_activity.specs.Activity as guard;
 use crate::memory::TrigMem;
 use base_core::{Control, Edge};
 
-/// Whether an event stands: the trigger was low and is above 0, was high and isn't, or either, by what it waits for. There
+/// Whether an event occurs: the trigger was low and is above 0, was high and isn't, or either, by what it waits for. There
 /// is none while it remembers nothing yet (Simulink reference, Trigger block).
 pub fn edge(e: Edge, memory: TrigMem, trigger: i64) -> bool
     ensures { result ≡ guard.edge e memory trigger }
@@ -19,7 +19,7 @@ pub fn edge(e: Edge, memory: TrigMem, trigger: i64) -> bool
 }
 
 /// Whether a subsystem is active, given whether the system around it is. With an enable it is so where that is above 0,
-/// with a trigger where an event stands, with both where both hold. A control that it doesn't have isn't read, nor is the
+/// with a trigger where an event occurs, with both where both hold. A control that it doesn't have isn't read, nor is the
 /// memory without a trigger.
 pub fn active(parent: bool, c: &Control, memory: TrigMem, enable: i64, trigger: i64) -> bool
     ensures { result ≡ guard.active parent c.now memory enable trigger }

@@ -50,7 +50,7 @@ pub length_fracs : (ts : List FixType) → length (map (λ t. t.frac) ts) ≡ le
 length_fracs [] = refl
 length_fracs (t ∷ ts) = ap suc (length_fracs ts)
 
--- the fraction bits of the inputs stand first
+-- the fraction bits of the inputs are first
 pub first_fracs : (ts : List FixType) (count : ℕ) → length ts ≡ count → take count (sum_fracs ts) ≡ map (λ t. t.frac) ts
 first_fracs ts count e =
     let fracs = map (λ (t : FixType). t.frac) ts in

@@ -10,7 +10,7 @@ use crate::width::total_frac;
 use base_core::Decimal;
 use base_fixed_point::{FixType, quantize};
 
-/// The fraction bits of the inputs, with 0 in the places behind them.
+/// The fraction bits of the inputs, with 0 in the places after them.
 fn sum_fracs(inputs: &[FixType]) -> [u8; 16]
     requires { length inputs.now ≤ 16 }
     ensures { result ≡ meaning.sum_fracs inputs.now }

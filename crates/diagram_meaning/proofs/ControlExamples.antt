@@ -178,7 +178,7 @@ signed_trigger = refl
 pub written_inside : written_time_refusal (with_both boolean boolean NoTime NoTime (Each (whole_period 0) no_time)) ≡ Some (TimeInside 7)
 written_inside = refl
 
--- an enable each second tick and a trigger each third: in the search what stands inside gives the time of the trigger alone
+-- an enable each second tick and a trigger each third: in the search what is inside gives the time of the trigger alone
 abbrev two_rates : RowTable
 two_rates = with_both boolean boolean (Each (whole_period 1) no_time) (Each (whole_period 2) no_time) NoTime
 

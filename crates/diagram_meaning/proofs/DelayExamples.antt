@@ -24,7 +24,7 @@ column_of = map (λ n. pos n ∷ [])
 abbrev two_of : ℕ → ℕ → List ℤ
 two_of a b = pos a ∷ pos b ∷ []
 
--- the oldest goes, and the new one stands last
+-- the oldest goes, and the new one is last
 pub one_step : moved_on (pos 7 ∷ pos 1 ∷ pos 2 ∷ []) (pos 3) ≡ pos 1 ∷ pos 2 ∷ pos 3 ∷ []
 one_step = refl
 
@@ -92,7 +92,7 @@ pub delay_type : HasType (record (numbered 0 (Inport 1) []) { type_text = Fixed 
     ∷ numbered 1 (Delay 2 zero_initial) (0 ∷ []) ∷ []) 1 int8
 delay_type = (2, refl)
 
--- delays of this length in a chain, behind the row of this number
+-- delays of this length in a chain, after the row of this number
 abbrev chain : (number length count : ℕ) → List Row
 chain number length zero = []
 chain number length (suc count) = numbered number (Delay length zero_initial) (number ∷ []) ∷ chain (suc number) length count
@@ -104,7 +104,7 @@ sixteen_delays = refl
 pub fifteen_delays : delay_refusal (chain 0 65535 15) ≡ None
 fifteen_delays = refl
 
--- a million samples are not too many; the first row beyond them is told, with the sum so far, whatever stands behind it
+-- a million samples are not too many; the first row beyond them is reported, with the sum so far, whatever is after it
 pub a_million : delay_refusal (chain 0 50000 20) ≡ None
 a_million = refl
 

@@ -1,4 +1,4 @@
--- The needs of outputs as masks: one that is the input, and one behind a delay.
+-- The needs of outputs as masks: one that is the input, and one after a delay.
 use Rattle.std.specs.Prelude.{◌≡◌, ℕ, zero, suc, ◌-◌, ◌^◌, ◌≤◌, ◌<◌, false, List, [], ◌∷◌, IsBitSet, Contains, None, ◌↔◌, refl}
 use Rattle.std.proofs.Common.{sym, ap, subst, arith, inl, inr, lit<, true≢false}
 use Rattle.std.proofs.lemmas.Nat.{pow_apart}

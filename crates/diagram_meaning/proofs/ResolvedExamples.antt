@@ -121,7 +121,7 @@ some-none refusal e = cc e
 pub unlike_is_not_resolved : (types : List FixType) (ops : List Op) (times : RowTimes) → IsResolved unlike types ops times → ⊥
 unlike_is_not_resolved types ops times h = some-none (NoType 10 Unlike) (sym unlike_refusal ∙ h.types_accepted)
 
--- behind a ground any type may be written, and without one there is none
+-- after a ground any type may be written, and without one there is none
 pub ground_is_like_any : type_refusal (row 0 None Ground [] Inherit ∷ row 1 None (Outport 1 false zero_initial) (0 ∷ [])
     (Fixed int16) ∷ []) ≡ None
 ground_is_like_any = refl

@@ -21,7 +21,7 @@ typed kind inputs text =
       time_text = NoTime;
     }
 
--- two delays that feed each other; an input, a sum of it and a delay; a ground behind an output; a conversion without a type
+-- two delays that feed each other; an input, a sum of it and a delay; a ground after an output; a conversion without a type
 abbrev rows : List Row
 rows =
     typed (UnitDelay zero_initial) (1 ∷ []) Inherit ∷ typed (UnitDelay zero_initial) (0 ∷ []) Inherit

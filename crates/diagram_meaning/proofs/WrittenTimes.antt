@@ -136,7 +136,7 @@ written-is EnablePort own period offset k h e = absurd (no-each period offset (s
 written-is TriggerPort own period offset k h e = absurd (no-each period offset (sym h ∙ e))
 written-is _ own period offset k h e = subst IsInheritedOrEach e h
 
--- what a text writes stands among the fractions of its row
+-- what a text writes is among the fractions of its row
 period-member : (period offset : Frac) → Member period (fractions_in (Each period offset))
 period-member period offset = inl refl
 

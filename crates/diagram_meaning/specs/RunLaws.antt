@@ -46,7 +46,7 @@ TicksHaveRows =
     (m' : List (List ℤ)) (g' : List TrigMem) →
     IsTick d s t x before m g v m' g' → HasRowEquations d s t x before m g v m' g'
 
--- in a run of a resolved model a delay remembers as many numbers as it is long, before and behind
+-- in a run of a resolved model a delay remembers as many numbers as it is long, before and after
 -- each tick
 abbrev pub MemoriesAreFull : Type 0
 MemoriesAreFull = (r : ResolvedTree) (s : Option ℕ) (xs : List (List ℤ)) (run : Run) (t b : ℕ) →
@@ -63,7 +63,7 @@ abbrev pub IsSystemWithin : List Row → Option ℕ → Option ℕ → Type 0
 IsSystemWithin rows s None = s ≡ None
 IsSystemWithin rows s (Some e) = (is_system s e || is_inside rows s e) ≡ true
 
--- the subsystems around the rows of the system n that count in s: n itself, and what stands around
+-- the subsystems around the rows of the system n that count in s: n itself, and what is around
 -- its row
 abbrev pub around_rows_of : List Row → Option ℕ → Option ℕ → List ℕ
 around_rows_of rows s None = []
@@ -75,13 +75,13 @@ pub record IsOwnRow (rows : List Row) (s n : Option ℕ) (b : ℕ) : Type 0 wher
   pub own : (row_at rows b).owner ≡ n
   pub within : IsSystemWithin rows s n
 
--- row b is inside s, and not that of s itself; around it stands what does so around all rows of n
+-- row b is inside s, and not that of s itself; around it is what is around all rows of n
 pub record StandsIn (rows : List Row) (s n : Option ℕ) (b : ℕ) : Type 0 where
   pub is_inside : is_inside rows s b ≡ true
   pub is_other : is_system s b ≡ false
   pub around : around rows s b ≡ around_rows_of rows s n
 
--- each row of a system within s stands so
+-- each row of a system within s is so
 abbrev pub OwnRowsStandIn : Type 0
 OwnRowsStandIn = (rows : List Row) (s n : Option ℕ) (b : ℕ) → IsNested rows → IsOwnRow rows s n b →
     StandsIn rows s n b

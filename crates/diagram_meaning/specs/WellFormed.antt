@@ -21,7 +21,7 @@ use Rattle.diagram_meaning.specs.RowTable.{RowTable}
 use Rattle.diagram_meaning.specs.Rows.{row_at, is_enabled, is_triggered, system_control, around, rows_of}
 use Rattle.diagram_blocks.specs.Kinds.{is_subsystem, is_inport, is_outport, port_of}
 
--- Nesting. Rows stand in preorder: behind a row come its own inner rows, or the next row of a
+-- Nesting. Rows are in preorder: after a row come its own inner rows, or the next row of a
 -- system around it.
 
 -- the owner of row b, if it has one, is a subsystem before it
@@ -29,7 +29,7 @@ abbrev pub IsOwner : List Row → ℕ → Option ℕ → Type 0
 IsOwner rows b None = ⊤
 IsOwner rows b (Some e) = (e < b) × IsTrue (is_subsystem (row_at rows e).kind)
 
--- the owner of the row behind row b: row b itself, a subsystem around it, or none
+-- the owner of the row after row b: row b itself, a subsystem around it, or none
 abbrev pub FollowsIn : List Row → ℕ → Option ℕ → Type 0
 FollowsIn rows b None = ⊤
 FollowsIn rows b (Some e) = Contains (b ∷ around rows None b) e

@@ -29,7 +29,7 @@ pub fn memories_are_full()
     ensures { MemoriesAreFull }
 {}
 
-/// A row of a subsystem inside a system is inside that too, and stands in what stands around its subsystem.
+/// A row of a subsystem inside a system is inside that too, and is in what is around its subsystem.
 pub fn own_rows_stand_in()
     ensures { OwnRowsStandIn }
 {}

@@ -48,7 +48,7 @@ impl Model for Resolved {
 pub enum BuildFault {
     /// The first refusal.
     Refused(Refusal),
-    /// Want of memory.
+    /// Out of memory.
     Memory,
 }
 

@@ -70,7 +70,7 @@ module _ (needs : ℕ → List ℕ) (z k : ℕ) (steps : List ℕ) (levels : Are
           let near = next-is a b other w.0 w.1 (omega (arith, e, s)) in
           first-less c b rest other (next.1 b near) (λ q. way.first other (subst (λ n. Walk needs n other z) (sym q) w.1) same)
 
--- the rows behind the first, on the way from s to the row that was reached
+-- the rows after the first, on the way from s to the row that was reached
 pub record IsOnWay (needs : ℕ → List ℕ) (z : ℕ) (steps : List ℕ) (s at : ℕ) (list : List ℕ) : Type 0 where
   pub behind : List ℕ
   pub begins : list ≡ s ∷ behind

@@ -1,4 +1,4 @@
--- At most one loop is told, and none where there is no loop.
+-- At most one loop is reported, and none where there is no loop.
 use Rattle.std.specs.Prelude.{◌≡◌, ℕ, ◌≤◌, IsTrue, List, [], ◌∷◌}
 use Rattle.std.specs.FinMap.{slice_cmp-IsAntisymmetric, nat_cmp-IsAntisymmetric}
 use Rattle.std.specs.declared.cmp.Ordering.{Ordering}
@@ -37,7 +37,7 @@ module _ (needs : ℕ → List ℕ) where
       let rest = same-path a path other p (subst (λ c. IsLeastFrom needs c other) (sym same) q) in
       λ i. same i ∷ rest i
 
-  -- not both: a loop that is told is a loop
+  -- not both: a loop that is reported is a loop
   pub told-not-none : HasNoLoop needs → (loop : List ℕ) → IsLeastLoop needs loop → ⊥
   told-not-none none [] l = l
   told-not-none none (a ∷ path) l = none (a ∷ path) l.is_loop

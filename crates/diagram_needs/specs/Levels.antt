@@ -31,7 +31,7 @@ abbrev pub IsFront : ℕ → ℕ → List ℕ → List ℕ → Type 0
 IsFront z k steps front = (a : ℕ) → Contains front a ↔ IsAtLevel z steps k a
 
 -- edge e is looked at: it leads from one of the first i rows in front, or from the next one and
--- stands at this place or behind
+-- is at this place or after it
 abbrev pub IsLookedAt : List (ℕ × ℕ) → List ℕ → ℕ → ℕ → ℕ → Type 0
 IsLookedAt edges front i place e =
     ((j : ℕ) × (j < i) × (slice_index front j ≡ from edges e))

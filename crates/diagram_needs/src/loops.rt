@@ -11,10 +11,10 @@ use base_graph::{Graph, OrderFault, order};
 use diagram_meaning::Resolved;
 use std::alloc::Global;
 
-/// The loop of rows, each of which needs the next and the last the first, that a refusal tells: it begins with the least
+/// The loop of rows, each of which needs the next and the last the first, that a refusal reports: it begins with the least
 /// row on any loop, is a shortest one through it, and is the first of these in order. None where there is no loop.
 ///
-/// In time linear in rows and wires, but for the logarithm of the queue that an order is found by.
+/// In time linear in rows and wires, except the logarithm of the queue that an order is found by.
 pub fn find_loop(alloc: Global, r: &Resolved) -> Result<Option<Vec<u32>>, Memory>
     ensures { IfOk result (λ found. MatchOption found (HasNoLoop (needs_of (diagram_of r.now)))
         (λ loop. IsLeastLoop (needs_of (diagram_of r.now)) loop.items)) }
@@ -23,7 +23,7 @@ pub fn find_loop(alloc: Global, r: &Resolved) -> Result<Option<Vec<u32>>, Memory
     find_in(alloc, &g)
 }
 
-/// The loop that [`find_loop`] tells, in a graph whose edges lead from what is needed to what needs it.
+/// The loop that [`find_loop`] reports, in a graph whose edges lead from what is needed to what needs it.
 pub fn find_in(alloc: Global, g: &Graph) -> Result<Option<Vec<u32>>, Memory>
     ensures { IfOk result
         (λ found. MatchOption found (HasNoLoop (needed g.now))

@@ -7,9 +7,9 @@ use std::alloc::Global;
 #[derive(Drop)]
 pub(crate) struct Search<'e> {
     edges: &'e [(u32, u32)],
-    // for each row the place of the next edge to follow from it, counted from 1, and 0 behind the last
+    // for each row the place of the next edge to follow from it, counted from 1, and 0 after the last
     next: Vec<usize>,
-    // for each edge the place of the one to follow behind it
+    // for each edge the place of the one to follow after it
     behind: Vec<usize>,
     seen: Vec<bool>,
     // the rows from the root of the search to where it is
@@ -64,7 +64,7 @@ impl<'e> Search<'e> {
         Ok(())
     }
 
-    // Goes on from a row along its next edge, or leaves it behind its last.
+    // Goes on from a row along its next edge, or leaves it after its last.
     fn pass(&mut self, row: u32) -> Result<(), Memory> {
         match self.follow(row) {
             Some(to) => {

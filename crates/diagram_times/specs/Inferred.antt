@@ -13,8 +13,8 @@ pub record AreInferred (table : RowTable) (times : RowTimes) : Type 0 where
   pub accepted : HasTimeRefusal table None
   pub are_times : AreTimes table times
 
--- the table is refused for its sample times, and this is the first refusal; want of memory says
--- nothing
+-- the table is refused for its sample times, and this is the first refusal; nothing is said
+-- where memory runs out
 abbrev pub IsTimeFault : RowTable → BuildFault → Type 0
 IsTimeFault table (Refused refusal) = HasTimeRefusal table (Some (plain_refusal refusal))
 IsTimeFault table Memory = ⊤

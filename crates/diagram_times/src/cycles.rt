@@ -30,7 +30,7 @@ struct Multiple {
 }
 
 impl Multiple {
-    /// Makes it a multiple of one more number, or tells it where it is above the limit.
+    /// Makes it a multiple of one more number, or reports it where it is above the limit.
     fn grow(&mut self, number: u64, line: u32) -> Result<(), Refusal>
         requires some { 0 < self.old.so_far }
         requires low { self.old.so_far < 2 ^ 32 }

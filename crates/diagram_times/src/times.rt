@@ -40,7 +40,7 @@ fn counted(base: BaseTick, period: Frac, offset: Frac) -> Time
     }
 }
 
-/// The slower of the times before and behind a rate transition.
+/// The slower of the times before and after a rate transition.
 pub(crate) fn slower(inside: Time, outside: Time) -> Time
     ensures { result ≡ time.slower inside outside }
 {

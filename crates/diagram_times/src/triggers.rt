@@ -51,7 +51,7 @@ fn last_trigger(rows: &[Row], found: Option<u32>, e: u32) -> Option<u32>
     }
 }
 
-/// The subsystem in which a row stands, none for a row of the root and past the end.
+/// The subsystem in which a row is, none for a row of the root and past the end.
 fn owner_at(rows: &[Row], b: usize) -> Option<u32>
     ensures { result ≡ (row_at rows.now b).owner }
 {

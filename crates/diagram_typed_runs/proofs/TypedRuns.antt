@@ -63,7 +63,7 @@ get-below [] k b e = absurd (let wrong : ⊥ = cc e in wrong)
 get-below (i ∷ is) zero b e = omega arith
 get-below (i ∷ is) (suc k) b e = let rest = get-below is k b e in omega arith
 
--- what holds of each port and its number holds of those behind the first ones
+-- what holds of each port and its number holds of those after the first ones
 zip-behind : (P : Port → ℤ → Type 0) (a n : ℕ) (controls : List Port) (x : List ℤ) →
     AllZip P (map Number (range_with_len a n) ++ controls) x →
     (k : ℕ) (p : Port) → slice_get controls k ≡ Some p → P p (value_at x (n + k))
@@ -148,7 +148,7 @@ module _ (r : ResolvedTree) (resolved : IsResolvedTree r) (s : Option ℕ) (xs :
       (slice_index_or run.values t []) (slice_index_or run.memories (suc t) []) (slice_index_or run.triggers (suc t) [])
   tick-at t below = runs_have_ticks d s xs run t is below
 
-  -- the values of a tick fit where what stands before it does
+  -- the values of a tick fit where what is before it does
   values-at : (t : ℕ) (below : t < length xs) → before_fits t → AreFit d (slice_index_or run.values t [])
   values-at t below fit =
       let x = slice_index_or xs t [] in

@@ -37,7 +37,7 @@ pub record IsTypedTick (d : Diagram) (n : Option ℕ) (m : SystemTick) : Type 0 
       IsEvaluable (op_at d b) (own_inputs d n m b) (first_of (m.memory b))
 
 -- where a trace lies in its types so does all else in its run; round a loop of rows that copy any
--- number could stand
+-- number could be there
 abbrev pub TicksAreTyped : Type 0
 TicksAreTyped = (r : ResolvedTree) (s n : Option ℕ) (xs : List (List ℤ)) (run : Run) (t : ℕ) →
     IsResolvedTree r →

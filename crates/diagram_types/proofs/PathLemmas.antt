@@ -27,7 +27,7 @@ new-inside marks b new = elim (dec_lt b (length marks)) [
 on-path-not_settled : (met : Option FixType) → (let m : Mark = OnPath in m ≡ Settled met) → ⊥
 on-path-not_settled met e = cc e
 
--- a row is put on the path
+-- a row is placed on the path
 pub marks-more : (rows : List Row) (marks : List Mark) (path : List ℕ) (b : ℕ) → b < length marks → AreMarks rows marks path →
     AreMarks rows (set marks b OnPath) (path ++ b ∷ [])
 marks-more rows marks path b inside are = record {
@@ -54,7 +54,7 @@ marks-more rows marks path b inside are = record {
       | no differ ↦ Contains-append_left path (b ∷ []) c (are.listed c (sym (get_or-set_other marks b c OnPath (Settled None) differ) ∙ e))
     ]
 
--- what holds of all places of the path and of the place behind holds of all places of the longer one
+-- what holds of all places of the path and of the place after holds of all places of the longer one
 longer : (P : ℕ → Type 0) (path : List ℕ) (b : ℕ) → ((i : ℕ) → i < length path → P (slice_index path i)) → P b →
     (i : ℕ) → i < length (path ++ b ∷ []) → P (slice_index (path ++ b ∷ []) i)
 longer P path b before here i h = elim (dec_lt i (length path)) [

@@ -16,7 +16,7 @@ pub record AreTypes (rows : List Row) (types : List FixType) : Type 0 where
   pub one_each : length types ≡ length rows
   pub each : (b : ℕ) → b < length rows → HasType rows b (type_at types b)
 
--- the rows are refused for their types, and this is the first refusal; want of memory says nothing
+-- the rows are refused for their types, and this is the first refusal; nothing is said where memory runs out
 abbrev pub IsTypeFault : List Row → BuildFault → Type 0
 IsTypeFault rows (Refused refusal) = type_refusal rows ≡ Some (plain_refusal refusal)
 IsTypeFault rows Memory = ⊤

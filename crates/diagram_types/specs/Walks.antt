@@ -13,7 +13,7 @@ pub record LeadsTo (rows : List Row) (b c : ℕ) : Type 0 where
   pub more : ℕ
   pub same_within : (m n : ℕ) → n ≡ suc more + m → type_within rows n b ≡ type_within rows m c
 
--- one mark a row: what is settled is right, and rows that count as on the path stand there
+-- one mark a row: what is settled is right, and rows that count as on the path are there
 pub record AreMarks (rows : List Row) (marks : List Mark) (path : List ℕ) : Type 0 where
   pub one_each : length marks ≡ length rows
   pub right : (b : ℕ) (met : Option FixType) → mark_at marks b ≡ Settled met →

@@ -1,4 +1,4 @@
--- What is told of a file that is refused for its tree, its types or its sample times.
+-- What is reported of a file that is refused for its tree, its types or its sample times.
 use Rattle.std.specs.Prelude.{◌≡◌, ℕ, List, None}
 use Rattle.std.proofs.Common.{inl, inr}
 use Rattle.mdl_tree.specs.Spelling.{Items}
@@ -13,7 +13,7 @@ use Rattle.diagram_times.specs.Inferred.{IsTimeFault}
 use Rattle.diagram_verdict.specs.Files.{IsFile, IsModelWith}
 use Rattle.diagram_verdict.specs.Faults.{as_built_fault, IsFaultOf}
 
--- a fault of a file's tree is one of the file
+-- an error of a file's tree is one of the file
 pub tree-fault : (bytes : List ℕ) (file : Items) (fault : BuildFault) → IsFile bytes file →
     IsFaultBy (tree_refusal file) fault → IsFaultOf bytes (as_built_fault fault)
 tree-fault bytes file (build.Refused refusal) is e = inl (inr (inr (file, is, e)))

@@ -12,7 +12,7 @@ use Rattle.mdl_table.specs.Tables.{TableOf}
 use Rattle.diagram_verdict.specs.Files.{file_limit, IsFile, FileVerdict, Refused, Accepted, HasFileVerdict, HasOneFileVerdict}
 use Rattle.mdl_table.specs.Laws.{TreeHasTable, TreeHasOneTable}
 
--- the lines of a text spell one tree, or have a fault
+-- the lines of a text spell one tree, or have an error
 abbrev TreesAndFaults : Type 0
 TreesAndFaults = (texts : List (List ℕ)) → TreeOrFault texts
 
@@ -48,7 +48,7 @@ same_file law bytes file other h g = by_law (lines_fault (lines bytes)) (law (li
     by_law None (items, spells, only) = only file h ∙ sym (only other g)
     by_law (Some fault) none = absurd (none file h)
 
--- a text with a fault has none
+-- a text with an error has none
 no_file : TreesAndFaults → (bytes : List ℕ) (line : ℕ) (kind : SyntaxKind) (file : Items) → Fault bytes line kind →
     LinesSpell (lines bytes) file → ⊥
 no_file law bytes line kind file is h = by_law (lines_fault (lines bytes)) is (law (lines bytes))

@@ -27,7 +27,7 @@ pub record Laws : Type 0 where
 
 -- ---- A table
 
--- what is said behind the loops, by the refusal of the delays
+-- what is said after the loops, by the refusal of the delays
 abbrev settled : Option PlainRefusal → ResolvedTable → Verdict
 settled (Some refusal) r = Refused refusal
 settled None r = Accepted r
@@ -55,7 +55,7 @@ some-equal a b e = cc
 some-none : {A : Type 0} (a : A) → Some a ≡ None → ⊥
 some-none a e = absurd (cc)
 
--- a told loop is a loop
+-- a reported loop is a loop
 looped : (needs : ℕ → List ℕ) (loop : List ℕ) → HasNoLoop needs → IsLeastLoop needs loop → ⊥
 looped needs [] none told = told
 looped needs (a ∷ path) none told = none (a ∷ path) told.is_loop

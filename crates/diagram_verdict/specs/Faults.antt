@@ -14,22 +14,22 @@ use Rattle.diagram_verdict.specs.declared.fault.ModelFault.TheVariants.{Refused,
 use Rattle.diagram_verdict.specs.Verdict as verdict
 use Rattle.diagram_verdict.specs.Verdict.{TellsLoop, HasVerdict}
 
--- a fault of reading, told of the file
+-- an error of reading, reported of the file
 abbrev pub as_read_fault : ReadFault → ModelFault
 as_read_fault (read.Syntax line kind) = Refused (refusal.Syntax line kind)
 as_read_fault read.Memory = Memory
 
--- a fault of the tree, of types or of sample times, told of the file
+-- an error of the tree, of types or of sample times, reported of the file
 abbrev pub as_built_fault : BuildFault → ModelFault
 as_built_fault (build.Refused refusal) = Refused refusal
 as_built_fault build.Memory = Memory
 
--- the loop of the diagram is told so, if it has one
+-- the loop of the diagram is reported so, if it has one
 abbrev pub TellsLoopOf : Diagram → Option Refusal → Type 0
 TellsLoopOf d found =
     MatchOption found (HasNoLoop (needs_of d)) (λ refusal. TellsLoop d (plain_refusal refusal))
 
--- the file is refused so; of want of memory nothing is said
+-- the file is refused so; nothing is said where memory runs out
 abbrev pub IsFaultOf : List ℕ → ModelFault → Type 0
 IsFaultOf bytes (Refused refusal) = HasVerdict bytes (verdict.Refused (plain_refusal refusal))
 IsFaultOf bytes Memory = ⊤

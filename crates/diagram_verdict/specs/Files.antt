@@ -25,7 +25,7 @@ pub data FileVerdict : Type 0 where
 abbrev pub IsLong : List ℕ → PlainRefusal → Type 0
 IsLong bytes refusal = (file_limit < length bytes) × (refusal ≡ TooLong)
 
--- they are not, and this is the first fault of their text
+-- they are not, and this is the first error of their text
 abbrev pub IsFaulty : List ℕ → PlainRefusal → Type 0
 IsFaulty bytes refusal =
     (length bytes ≤ file_limit)

@@ -19,7 +19,7 @@ use Rattle.diagram_verdict.specs.Files as file
 abbrev pub IsModelOf : List ℕ → ResolvedTable → Type 0
 IsModelOf bytes r = IsModelWith bytes r.table × IsResolvedTable r
 
--- ---- Refusals behind those of the text and of the tree: of types, of sample times, of a loop, of
+-- ---- Refusals after those of the text and of the tree: of types, of sample times, of a loop, of
 -- the delays together
 
 -- the rows of the model are refused so for their types
@@ -37,7 +37,7 @@ IsIllTimed bytes refusal =
 abbrev pub places_of : List Row → List ℕ → List Place
 places_of rows numbers = map (λ b. (row_at rows b).place) numbers
 
--- rows of the diagram need each other at one tick, and the refusal tells their loop
+-- rows of the diagram need each other at one tick, and the refusal reports their loop
 abbrev pub TellsLoop : Diagram → PlainRefusal → Type 0
 TellsLoop d refusal =
     (loop : List ℕ) × IsLeastLoop (needs_of d) loop × (refusal ≡ Loop (places_of d.rows loop))

@@ -8,7 +8,7 @@ use mdl_reader::ReadFault;
 pub enum ModelFault {
     /// The first refusal.
     Refused(Refusal),
-    /// Want of memory.
+    /// Out of memory.
     Memory,
 }
 

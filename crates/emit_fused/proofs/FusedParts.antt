@@ -158,7 +158,7 @@ module _ (s : Scope) (steady : AreSteady s.functions)
 
   -- ---- Two neighbours
 
-  -- what goes on behind statements, on fields that are the same for the test
+  -- what goes on after statements, on fields that are the same for the test
   kept_then : (fields : List ℕ) (cells : Cells) (next : Cells → ℕ → Outcome) (y : StmtTrees) →
       ((others : Cells) → AreSameAt fields cells others → (n m : ℕ) → m ≤ n →
       Refines in_place (next others n) (run_stmts s y others m)) →

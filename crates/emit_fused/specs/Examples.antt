@@ -102,7 +102,7 @@ call_on_child : Stays (when inside (call 0 7 (OnChild 8) no_exprs ∷ [])
     ∷ when inside (store 2 ∷ []) ∷ [])
 call_on_child = refl
 
--- something stands between
+-- something is between
 store_between : Stays (when control (store 1 ∷ []) ∷ store 2 ∷ when control (store 3 ∷ []) ∷ [])
 store_between = refl
 

@@ -18,7 +18,7 @@ abbrev mutual
   turned_onto no_stmts later = later
   turned_onto (more_stmts s ss) later = turned_onto ss (more_stmts (turned_stmt s) later)
 
--- statements of the source, as they stand
+-- statements of the source, as they are
 abbrev pub standing : List Stmt → StmtTrees
 standing ss = stmts_of_list (map stmt_tree ss)
 

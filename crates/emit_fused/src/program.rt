@@ -54,7 +54,7 @@ fn fused_procedures(alloc: Global, procedures: Vec<Procedure>) -> Result<Vec<Pro
 /// A program in which neighbouring `if`s of one test are one, and no factor or divisor is 1, in time linear in its code.
 ///
 /// The pure functions and the structs are those of the program. Each body is built anew, and the one before it is let go.
-/// Fails only for want of memory.
+/// Fails only when memory runs out.
 pub fn fused(alloc: Global, program: Program) -> Result<Program, Memory>
     ensures { IfOk result (λ p. program_tree p ≡ fused_trees.fused (program_tree program)) }
 {

@@ -1,4 +1,4 @@
--- The depths of the program without helpers: a helper's body stands no deeper than it did.
+-- The depths of the program without helpers: a helper's body is no deeper than it was.
 use Rattle.std.specs.Prelude.{◌≡◌, ℕ, zero, suc, ◌≤◌, max, Bool, true, false, if◌then◌else◌, List, [], ◌∷◌, ◌++◌, map, Option, Some, None, slice_index_or}
 use Rattle.std.specs.List.{AllByRecursion}
 use Rattle.std.proofs.Common.{refl, arith}

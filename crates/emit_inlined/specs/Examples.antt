@@ -58,7 +58,7 @@ before = program
 helpers_found : inlined_helpers before ≡ 1 ∷ 2 ∷ []
 helpers_found = refl
 
--- their bodies stand there, and read the parameter that was passed
+-- their bodies are there, and read the parameter that was passed
 bodies_in_place : inlined before ≡ program
     (helper (codes "g0") (store 0 0 ∷ [])
     ∷ procedure (codes "out1") (call_with 0 1 ∷ store 1 1 ∷ call_with 0 1 ∷ [])
@@ -76,7 +76,7 @@ called_twice : Stays (helper (codes "g0") (store 0 0 ∷ [])
     ∷ procedure (codes "out1") (call_with 0 1 ∷ call_with 0 0 ∷ []) ∷ [])
 called_twice = refl
 
--- below an `if`, where its statements would stand deeper
+-- below an `if`, where its statements would be deeper
 below_if : Stays (helper (codes "g0") (store 0 0 ∷ [])
     ∷ procedure (codes "out1") (branch 0 (compare Gt (read (Param 0)) (literal (pos 0)))
     (stmts_of_list (call_with 0 1 ∷ [])) no_stmts ∷ []) ∷ [])

@@ -1,4 +1,4 @@
--- Code in which the body of a private procedure stands where it is called, if that is at one place.
+-- Code in which the body of a private procedure is where it is called, if that is at one place.
 use Rattle.std.specs.Prelude.{ℕ, zero, suc, ◌+◌, ◌==◌, not, Bool, false, ◌&&◌, ◌||◌, if◌then◌else◌, List, [], ◌∷◌, ◌++◌, map, flat_map, count_by, slice_index_or, Option, Some, None, option_map, option_and_then, bytes_eq, codes}
 use Rattle.std.specs.List.{list_any}
 use Rattle.c_syntax.specs.declared.code.Leaf.{Leaf}
@@ -169,7 +169,7 @@ module _ (p : ProgramTree) where
         if is_interface q.name then inlined_stmts q.body else moved_stmts itself place q.body;
   }
 
--- a program without its helpers, whose bodies stand where they were called; the other procedures
+-- a program without its helpers, whose bodies are where they were called; the other procedures
 -- keep their order
 abbrev pub inlined : ProgramTree → ProgramTree
 inlined p =

@@ -5,7 +5,7 @@ use Rattle.c_syntax.specs.Lawful.{IsLawful, without_lines}
 use Rattle.c_refinement.specs.Refinement.{RefinesBy}
 use Rattle.emit_inlined.specs.Inlined.{stays, place, inlined}
 
--- it keeps the static rules and the limits: a helper's body stands no deeper than it did
+-- it keeps the static rules and the limits: a helper's body is no deeper than it was
 abbrev pub InlinedIsLawful : Type 0
 InlinedIsLawful = (p : ProgramTree) → IsLawful p → IsLawful (inlined p)
 

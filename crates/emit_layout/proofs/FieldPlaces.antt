@@ -39,7 +39,7 @@ module _ (of : Scheduled) (v s l c : List ℕ) (has : HasFields of v s l c) wher
   pub counter-count : length c ≡ length (shared_groups of.schedule)
   counter-count = ap length has.counters
 
-  -- how many fields stand before the children
+  -- how many fields are before the children
   pub trigger-is : length v + length s + 3 * length l ≡ trigger_field of.local
   trigger-is = omega (arith, value-count, single-count, line-count)
 

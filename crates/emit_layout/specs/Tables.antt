@@ -14,7 +14,7 @@ use Rattle.emit_system_spec.specs.Places.{node_places, child_base}
 use Rattle.emit_system_spec.specs.Sources.{sources}
 use Rattle.emit_layout.specs.Laid.{Laid, Scheduled}
 
--- a table tells the first place of each of these numbers, and of no other any
+-- a table gives the first place of each of these numbers, and of no other any
 abbrev pub TellsPlaces : List ℕ → (ℕ → Option ℕ) → Type 0
 TellsPlaces keys told = (k : ℕ) → told k ≡ first_place keys k
 

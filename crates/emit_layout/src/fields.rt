@@ -119,7 +119,7 @@ impl<'a> Fields<'a> {
         (numbers.values.count() + numbers.singles.count() + 3 * numbers.lines.count()) as u32
     }
 
-    /// The field of the child at a place, and where the counters begin behind the last one.
+    /// The field of the child at a place, and where the counters begin after the last one.
     pub fn child(&self, place: usize) -> u32
         requires { place ≤ length self.now.local.children }
         ensures { result ≡ fields.child_field self.now.local place }

@@ -132,7 +132,7 @@ impl<'a> Layout<'a> {
         self.fields.trigger()
     }
 
-    /// The field of the child at a place; behind the last child the counters begin.
+    /// The field of the child at a place; after the last child the counters begin.
     pub fn child_field(&self, place: usize) -> u32
         requires { place ≤ length self.now.local.children }
         ensures { result ≡ field.child_field self.now.local place }
@@ -175,7 +175,7 @@ impl<'a> Layout<'a> {
 
     /// What reads each of some wires.
     ///
-    /// Fails only for want of memory.
+    /// Fails only when memory runs out.
     pub fn wire_leaves(&self, alloc: Global, wires: &[u32]) -> Result<Vec<Leaf>, Memory>
         ensures { IfOk result (λ v. v.items ≡ map (sources.wire_leaf self.now.local) wires.now) }
     {
@@ -188,7 +188,7 @@ impl<'a> Layout<'a> {
 
     /// The types of wires, as far as they have sources.
     ///
-    /// Fails only for want of memory.
+    /// Fails only when memory runs out.
     pub fn wire_types(&self, alloc: Global, wires: &[u32]) -> Result<Vec<FixType>, Memory>
         ensures { IfOk result (λ v. v.items ≡ sources.wire_types self.now.local wires.now) }
     {
@@ -234,7 +234,7 @@ impl<'a> Layout<'a> {
         (self.tables.groups.len() + schedule.functions.len() + 3) as u32
     }
 
-    /// The number of the first procedure of the child at a place, behind the own ones and those of the children before.
+    /// The number of the first procedure of the child at a place, after the own ones and those of the children before.
     pub fn child_base(&self, place: usize) -> u32
         requires { place ≤ length self.now.local.children }
         ensures { result

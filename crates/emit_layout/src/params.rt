@@ -41,7 +41,7 @@ impl Params {
         }
     }
 
-    /// One more parameter, behind the others.
+    /// One more parameter, after the others.
     pub fn push(&mut self, parameter: Parameter, of: CType) -> Result<(), Memory>
         ensures { OnOk result (self.new ≡ self.old ++ parameters.named_param (parameter, of) ∷ []) }
     {

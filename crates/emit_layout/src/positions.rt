@@ -31,7 +31,7 @@ impl Model for Positions {
 impl Positions {
     /// The places of these numbers, made in time linear in how many there are.
     ///
-    /// Fails only for want of memory.
+    /// Fails only when memory runs out.
     pub fn new(alloc: Global, keys: Vec<u32>) -> Result<Positions, Memory>
         ensures { IfOk result (λ p. p ≡ keys.items) }
     {

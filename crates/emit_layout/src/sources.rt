@@ -28,7 +28,7 @@ impl Model for Sources {
 impl Sources {
     /// These sources, to be found by their rows: made in time linear in how many there are.
     ///
-    /// Fails only for want of memory.
+    /// Fails only when memory runs out.
     pub fn new(alloc: Global, list: Vec<Source>) -> Result<Sources, Memory>
         ensures { IfOk result (λ s. s ≡ list.items) }
     {

@@ -3,7 +3,7 @@ use Rattle.std.proofs.Common.{◌≡◌, ℕ, suc, not, eqb, ltb, List, [], ◌�
 use Rattle.std.proofs.lemmas.Bool.{lt-ltb, le-ltb, ne_eqb, cases_lt}
 use Rattle.emit_system_spec.specs.Groups.{has_some}
 
--- a count that goes up to 2 alone tells whether there is more than one
+-- a count that goes up to 2 alone says whether there is more than one
 pub more-than-one : (n m : ℕ) → min n 2 ≡ min m 2 → ltb 1 n ≡ ltb 1 m
 more-than-one n m e = elim (cases_lt 1 n) [
   | inl above ↦ lt-ltb 1 n above ∙ sym (lt-ltb 1 m (omega (arith, above, e)))

@@ -11,7 +11,7 @@ use modules_profile::{ChildUse, Local};
 use modules_schedule::Schedule;
 use std::alloc::Global;
 
-/// The number of the first procedure of each child, behind the procedures of these groups and the
+/// The number of the first procedure of each child, after the procedures of these groups and the
 /// other own ones.
 pub(crate) fn bases_behind(
     alloc: Global,

@@ -16,7 +16,7 @@ use std::alloc::Global;
 
 /// The layout of a system with this profile and this schedule, made in time linear in the system and its schedule.
 ///
-/// Fails only for want of memory.
+/// Fails only when memory runs out.
 pub fn layout_of<'a>(
     alloc: Global,
     local: &'a Local,

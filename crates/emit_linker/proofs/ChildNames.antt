@@ -1,4 +1,4 @@
--- The names of children, told one field after another.
+-- The names of children, given one field after another.
 use Rattle.std.proofs.Common.{◌≡◌, refl, sym, ap, ◌∙◌, ℕ, zero, suc, ◌+◌, ◌-◌, ◌<◌, ◌≤◌, ◌≢◌, false, cond, List, [], ◌∷◌, ◌++◌, length, map, set, take, drop, get_or, find, replicate, Option, Some, None, arith}
 use Rattle.std.specs.List.{range_with_len, filter_map, cons_option}
 use Rattle.std.specs.Option.{option_map, option_to_list}
@@ -83,7 +83,7 @@ none-told : (a n : ℕ) → told_names (replicate n None) ≡ map (child_at []) 
 none-told a zero = refl
 none-told a (suc n) = ap (λ l. None ∷ l) (none-told (a + 1) n)
 
--- where there are no fields nothing is told
+-- where there are no fields nothing is given
 pub told-nothing : (n : ℕ) → told_names (replicate n None) ≡ children_at [] n
 told-nothing n = none-told 0 n
 

@@ -38,7 +38,7 @@ seen-push see old new x y pushed is = ap (map see) pushed ∙ map-append see old
 pub two-pushed : {A : Type 0} (before one two : List A) (a b : A) → one ≡ before ++ a ∷ [] → two ≡ one ++ b ∷ [] → two ≡ before ++ a ∷ b ∷ []
 two-pushed before one two a b first second = second ∙ ap (λ l. l ++ b ∷ []) first ∙ append_assoc before (a ∷ []) (b ∷ [])
 
--- of each member one, by what is seen of it, behind what stood there before
+-- of each member one, by what is seen of it, after what was there before
 pub seen-next : {A B C : Type 0} (f : B → C) (see : A → B) (xs : List A) (i : ℕ) (x : A) (before so_far now : List C) → i < length xs →
     x ≡ get_or xs i x → so_far ≡ before ++ map f (map see (take i xs)) → now ≡ so_far ++ f (see x) ∷ [] →
     now ≡ before ++ map f (map see (take (i + 1) xs))

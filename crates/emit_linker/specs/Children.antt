@@ -18,7 +18,7 @@ children_at fields count = map (child_at fields) (range_with_len 0 count)
 abbrev pub children_among : List FieldTree → List (List ℕ)
 children_among fields = filter_map (child_at fields) (range_with_len 0 (length fields))
 
--- names behind references
+-- names that references lead to
 abbrev pub told_name : Option (Bor (List ℕ)) → Option (List ℕ)
 told_name name = option_map (λ (n : Bor (List ℕ)). n.now) name
 

@@ -16,7 +16,7 @@ trees codes = map system_tree codes
 abbrev pub place_in : {S : Type 0} → IndexMap (Bor (List ℕ)) ℕ S → List ℕ → Option ℕ
 place_in names name = get_by (λ k. bytes_eq name k.now) names
 
--- a table tells the first code of each name from a place on, where these are the codes from there
+-- a table gives the first code of each name from a place on, where these are the codes from there
 abbrev pub TellsCodes : ℕ → List SystemCode → (List ℕ → Option ℕ) → Type 0
 TellsCodes from codes told = (name : List ℕ) →
     told name ≡ position_from (λ c. bytes_eq c.structure.name name) from (trees codes)
@@ -27,7 +27,7 @@ pub record IsNoCode (code : SystemCode) : Type 0 where
   pub outputs : code.outputs.items ≡ []
   pub procedures : length code.procedures.items ≡ 0
 
--- the codes are few, an empty one stands for those past the end, and tables tell each name's code
+-- the codes are few, an empty one stands for those past the end, and tables give each name's code
 -- and each code's first procedure
 pub record AreFound (codes : List SystemCode) (empty : SystemCode) (told : List ℕ → Option ℕ)
     (numbers : List ℕ) : Type 0 where

@@ -91,7 +91,7 @@ fn values_for(
     }
 }
 
-/// A call on the field behind the tick and the outputs.
+/// A call on the field after the tick and the outputs.
 fn call_behind(outputs: u32, procedure: u32, values: Vec<Expr>) -> Stmt
     requires { outputs + 1 < 2 ^ 32 }
     ensures { stmt_tree result

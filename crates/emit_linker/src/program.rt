@@ -91,7 +91,7 @@ fn program_of(alloc: Global, codes: &Codes<'_>, root: &Local, hyper: u32) -> Res
 /// from the last code to the first, and those of the root by its own rows. So many ticks are one round.
 ///
 /// It takes time linear in the text of all codes, times the names of a system's public procedures, of which there are at
-/// most 35. Fails only for want of memory, or where a position would pass 32 bits.
+/// most 35. Fails only when memory runs out, or where a position would pass 32 bits.
 pub fn assemble(
     alloc: Global,
     codes: &[SystemCode],

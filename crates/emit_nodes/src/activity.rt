@@ -13,7 +13,7 @@ use std::alloc::Global;
 
 /// The test that a system is active; `None` always holds.
 ///
-/// Fails only for want of memory.
+/// Fails only when memory runs out.
 pub(crate) fn active_test(
     alloc: Global,
     layout: &Layout<'_>,
@@ -27,7 +27,7 @@ pub(crate) fn active_test(
 
 /// The test that a system is off, and loses its states; `None` never holds.
 ///
-/// Fails only for want of memory.
+/// Fails only when memory runs out.
 pub(crate) fn off_test(
     alloc: Global,
     layout: &Layout<'_>,
@@ -41,7 +41,7 @@ pub(crate) fn off_test(
 
 /// The test that the enable of a system is low; `None` never holds.
 ///
-/// Fails only for want of memory.
+/// Fails only when memory runs out.
 pub(crate) fn disabled_test(
     alloc: Global,
     layout: &Layout<'_>,
@@ -55,7 +55,7 @@ pub(crate) fn disabled_test(
 
 /// The test that a system is active and that the tick is one of a row's; `None` always holds.
 ///
-/// Fails only for want of memory.
+/// Fails only when memory runs out.
 pub(crate) fn runs_test(
     alloc: Global,
     layout: &Layout<'_>,

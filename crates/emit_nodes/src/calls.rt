@@ -26,7 +26,7 @@ fn under(alloc: Global, test: Cond, yes: Vec<Stmt>) -> Stmt
 /// Code that runs once until its counter, an own field, is brought back to 0; without a counter it
 /// always runs.
 ///
-/// Fails only for want of memory.
+/// Fails only when memory runs out.
 pub fn counted(alloc: Global, counter: Option<u32>, code: Vec<Stmt>) -> Result<Vec<Stmt>, Memory>
     ensures { IfOk result (λ v. code_of v.items ≡ emitted.counted counter (code_of code.items)) }
 {
@@ -72,7 +72,7 @@ fn own_call(alloc: Global, params: &Params, procedure: u32, wanted: &Params) -> 
 
 /// Calls of groups, whose parameters are given by their numbers.
 ///
-/// Fails only for want of memory.
+/// Fails only when memory runs out.
 pub fn own_calls(
     alloc: Global,
     params: &Params,

@@ -42,7 +42,7 @@ fn entering_leaves(
 
 /// The statements that call function `j`, from 1 on, of the child at a place.
 ///
-/// Fails only for want of memory.
+/// Fails only when memory runs out.
 pub(crate) fn call_code(
     alloc: Global,
     layout: &Layout<'_>,
@@ -67,7 +67,7 @@ pub(crate) fn call_code(
 
 /// The statements that call the update of the child at a place.
 ///
-/// Fails only for want of memory.
+/// Fails only when memory runs out.
 pub fn update_code(
     alloc: Global,
     layout: &Layout<'_>,
@@ -89,7 +89,7 @@ pub fn update_code(
 
 /// The statements that reset the child at a place.
 ///
-/// Fails only for want of memory.
+/// Fails only when memory runs out.
 pub fn reset_code(
     alloc: Global,
     layout: &Layout<'_>,

@@ -5,9 +5,9 @@ ghost use Rattle.emit_nodes.specs.Code.{code_of};
 use base_core::Memory;
 use c_syntax::Stmt;
 
-/// Puts statements behind others.
+/// Places statements after others.
 ///
-/// Fails only for want of memory.
+/// Fails only when memory runs out.
 #[tactic(auto, using(crate::proofs::lemmas::Joined::code_of_append))]
 pub fn push_code(code: &mut Vec<Stmt>, mut more: Vec<Stmt>) -> Result<(), Memory>
     ensures { OnOk result

@@ -16,7 +16,7 @@ use std::alloc::Global;
 
 /// The statements for a node; for none of the system's there are none.
 ///
-/// Fails only for want of memory.
+/// Fails only when memory runs out.
 fn node_code(
     alloc: Global,
     layout: &Layout<'_>,
@@ -42,7 +42,7 @@ fn node_code(
 
 /// The statements for the node at a position of the system's nodes.
 ///
-/// Fails only for want of memory.
+/// Fails only when memory runs out.
 fn code_at(alloc: Global, layout: &Layout<'_>, params: &Params, n: u32) -> Result<Vec<Stmt>, Memory>
     requires { IsEmittable layout.now.local layout.now.schedule }
     ensures { IfOk result (λ v. code_of v.items
@@ -56,7 +56,7 @@ fn code_at(alloc: Global, layout: &Layout<'_>, params: &Params, n: u32) -> Resul
 
 /// The statements for some of the system's nodes, in this order.
 ///
-/// Fails only for want of memory.
+/// Fails only when memory runs out.
 pub fn nodes_code(
     alloc: Global,
     layout: &Layout<'_>,

@@ -20,7 +20,7 @@ use std::alloc::Global;
 
 /// What a delay remembers from its oldest sample; of no meaning at another row.
 ///
-/// Fails only for want of memory.
+/// Fails only when memory runs out.
 fn memory_read(alloc: Global, layout: &Layout<'_>, row: &LocalRow) -> Result<Expr, Memory>
     requires { IsWritableRow layout.now.local row.now }
     ensures { IfOk result (λ e. expr_tree e ≡ node.memory_read layout.now.local row.now) }
@@ -36,7 +36,7 @@ fn memory_read(alloc: Global, layout: &Layout<'_>, row: &LocalRow) -> Result<Exp
 
 /// Where a row's inputs are read: of an Inport the parameter, of any other row its wires.
 ///
-/// Fails only for want of memory.
+/// Fails only when memory runs out.
 fn input_leaves(
     alloc: Global,
     layout: &Layout<'_>,
@@ -69,7 +69,7 @@ fn first_input(layout: &Layout<'_>, params: &Params, row: &LocalRow) -> Leaf
 
 /// The statements that reset the output of an Outport while its system is disabled.
 ///
-/// Fails only for want of memory.
+/// Fails only when memory runs out.
 fn output_reset(
     alloc: Global,
     layout: &Layout<'_>,
@@ -90,7 +90,7 @@ fn output_reset(
 
 /// The statements that store what a row computes, where it runs.
 ///
-/// Fails only for want of memory.
+/// Fails only when memory runs out.
 fn value_store(
     alloc: Global,
     layout: &Layout<'_>,
@@ -111,7 +111,7 @@ fn value_store(
 
 /// The statements for the value of a row; a row without one has none.
 ///
-/// Fails only for want of memory.
+/// Fails only when memory runs out.
 pub(crate) fn value_code(
     alloc: Global,
     layout: &Layout<'_>,
@@ -132,7 +132,7 @@ pub(crate) fn value_code(
 
 /// The statements for what a delay remembers.
 ///
-/// Fails only for want of memory.
+/// Fails only when memory runs out.
 pub fn memory_code(
     alloc: Global,
     layout: &Layout<'_>,
@@ -159,7 +159,7 @@ pub fn memory_code(
 
 /// The statements for what a trigger remembers.
 ///
-/// Fails only for want of memory.
+/// Fails only when memory runs out.
 pub fn trigger_code(
     alloc: Global,
     layout: &Layout<'_>,

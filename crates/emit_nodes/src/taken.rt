@@ -18,7 +18,7 @@ const IDLE: Function = Function {
 
 /// The rows that a child's inputs and then its controls read.
 ///
-/// Fails only for want of memory.
+/// Fails only when memory runs out.
 pub(crate) fn entering(alloc: Global, child: &ChildUse) -> Result<Vec<u32>, Memory>
     ensures { IfOk result (λ v. v.items ≡ wires_entering child.now) }
 {
@@ -31,7 +31,7 @@ pub(crate) fn entering(alloc: Global, child: &ChildUse) -> Result<Vec<u32>, Memo
 /// Of what a system has for each input and then for its controls, what function `j` of it takes,
 /// which counts from 1.
 ///
-/// Fails only for want of memory.
+/// Fails only when memory runs out.
 pub(crate) fn taken(
     alloc: Global,
     header: &Header,

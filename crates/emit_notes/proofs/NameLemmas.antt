@@ -57,7 +57,7 @@ digit-no_letter d h =
     let low = leb-true d 57 (and_parts (nat_le 48 d) (nat_le d 57) h).1 in
     let e : (d == 111) ≡ false = grind (arith, nat_tests, low) in e
 
--- digits behind `n` don't make it `now`
+-- digits after `n` don't make it `now`
 no-word : (ds : List ℕ) → is_numeral ds ≡ true → bytes_eq ds (codes "ow") ≡ false
 no-word [] h = refl
 no-word (d ∷ ds) h =

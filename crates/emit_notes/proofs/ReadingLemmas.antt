@@ -27,7 +27,7 @@ use Rattle.emit_notes.specs.Labels.{label_of, model_labels, placed_label}
 
 -- ---- The tree
 
--- a text that spells a tree has no fault
+-- a text that spells a tree has no error
 pub no-fault : (bytes : List ℕ) (line : ℕ) (kind : SyntaxKind) (file : Items) → Fault bytes line kind → Mdl bytes file → ⊥
 no-fault bytes line kind file fault is = by (lines_fault (lines bytes)) fault (tree_or_fault (lines bytes))
   where

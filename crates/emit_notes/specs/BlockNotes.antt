@@ -13,7 +13,7 @@ use Rattle.emit_notes.specs.NameUses.{use_of}
 abbrev pub block_note : Label → List ℕ
 block_note l = block_type_name l.block_type ++ codes " \"" ++ l.name ++ codes "\""
 
--- the note of row r behind some words; of a row that isn't there none
+-- the note of row r after some words; of a row that isn't there none
 abbrev pub row_note : List Label → (words : List ℕ) → ℕ → List ℕ
 row_note labels words r =
     option_map_or (λ (l : Label). words ++ block_note l) (slice_get labels r) []
@@ -51,7 +51,7 @@ abbrev pub path_of : List Label → (n : ℕ) → (r : ℕ) → List ℕ
 path_of labels zero r = []
 path_of labels (suc n) r = path_to (λ o. path_of labels n o) (slice_get labels r)
 
--- subsystems stand at most 32 deep
+-- subsystems are at most 32 deep
 abbrev pub most_deep : ℕ
 most_deep = 32
 

@@ -66,13 +66,13 @@ taken_inports labels fields params =
 
 -- ---- The note
 
--- the name of row r in quotes, behind some text
+-- the name of row r in quotes, after some text
 abbrev pub quoted : List Label → (before : List ℕ) → ℕ → List ℕ
 quoted labels before r =
     before ++ codes "\"" ++ option_map_or (λ (l : Label). l.name) (slice_get labels r) []
     ++ codes "\""
 
--- the names of rows in quotes, with commas between them, behind some text; of no rows nothing
+-- the names of rows in quotes, with commas between them, after some text; of no rows nothing
 abbrev pub listed : List Label → (before : List ℕ) → List ℕ → List ℕ
 listed labels before [] = []
 listed labels before (r ∷ rows) =

@@ -16,7 +16,7 @@ use Rattle.emit_notes.specs.Labels.{label_of, model_blocks, model_labels}
 use Rattle.emit_notes.specs.BlockNotes.{block_note}
 use Rattle.emit_notes.specs.ProgramNotes.{notes_of}
 
--- the field with this name for a row has the note of the row's block, behind some words
+-- the field with this name for a row has the note of the row's block, after some words
 abbrev pub AreNotedBy : (name : ℕ → List ℕ) (words : List ℕ) → Type 0
 AreNotedBy name words =
     (model : found.Model) (p : ProgramTree) (k f r : ℕ) (s : StructTree) (field : FieldTree)

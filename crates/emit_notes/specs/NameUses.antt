@@ -22,7 +22,7 @@ numbered_use letter n =
 abbrev pub number_of : List ℕ → ℕ
 number_of digits = min (digits_value 10 digits) 18446744073709551615
 
--- a letter with these bytes behind it
+-- a letter with these bytes after it
 abbrev pub use_after : (letter : ℕ) → List ℕ → NameUse
 use_after letter digits =
     if is_numeral digits then numbered_use letter (number_of digits) else Other

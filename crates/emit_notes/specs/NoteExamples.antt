@@ -1,4 +1,4 @@
--- The notes of a model in which a controller, row 1, stands in a subsystem, row 0, and holds two
+-- The notes of a model in which a controller, row 1, is in a subsystem, row 0, and holds two
 -- Inports, a Delay and two Outports, rows 2 to 6.
 use Rattle.std.specs.Prelude.{◌≡◌, ℕ, false, pos, List, [], ◌∷◌, map, Option, Some, None, codes, refl}
 use Rattle.std.specs.Fmt.{digits}

@@ -18,7 +18,7 @@ fn push_block(out: &mut Vec<u8>, label: &Label) -> Result<(), Memory>
     push_bytes(out, b"\"")
 }
 
-/// The note of a row behind some words; of a row that isn't there none.
+/// The note of a row after some words; of a row that isn't there none.
 fn row_note(alloc: Global, labels: &[Label], words: &[u8], row: usize) -> Result<Vec<u8>, Memory>
     ensures { IfOk result (λ v. v.items ≡ noted.row_note labels.now words.now row) }
 {

@@ -21,7 +21,7 @@ fn row_name(labels: &[Label], row: usize) -> &[u8]
     }
 }
 
-/// Adds the name of a row in quotes, behind some text.
+/// Adds the name of a row in quotes, after some text.
 fn push_quoted(out: &mut Vec<u8>, labels: &[Label], before: &[u8], row: usize) -> Result<(), Memory>
     ensures { OnOk result (out.new.items
         ≡ out.old.items ++ function.quoted labels.now before.now row) }
@@ -32,7 +32,7 @@ fn push_quoted(out: &mut Vec<u8>, labels: &[Label], before: &[u8], row: usize) -
     push_bytes(out, b"\"")
 }
 
-/// Adds the names of rows in quotes, with commas between them, behind some text; of no rows nothing.
+/// Adds the names of rows in quotes, with commas between them, after some text; of no rows nothing.
 fn push_listed(
     out: &mut Vec<u8>,
     labels: &[Label],

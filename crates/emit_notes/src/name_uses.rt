@@ -49,7 +49,7 @@ fn numbered_use(letter: u8, number: usize) -> NameUse
     }
 }
 
-/// What a letter with these bytes behind it stands for.
+/// What a letter with these bytes after it stands for.
 fn use_after(letter: u8, digits: &[u8]) -> NameUse
     ensures { result ≡ named.use_after letter digits.now }
 {

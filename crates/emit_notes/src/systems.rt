@@ -8,7 +8,7 @@ use crate::name_uses::NameUse;
 use base_core::Memory;
 use std::alloc::Global;
 
-/// So deep stand subsystems at most.
+/// Subsystems are at most so deep.
 const MOST_DEEP: usize = 32;
 
 /// Adds the names of the subsystems around a row, at most so many with its own, the outermost first, with `/` between

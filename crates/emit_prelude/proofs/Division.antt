@@ -182,7 +182,7 @@ some_below : (m : ℕ) → not (int_eq (neg_ℤ (pos m)) (pos 0)) ≡ true → 1
 some_below zero e = absurd (true≢false (sym e))
 some_below (suc m) e = omega arith
 
--- beside an odd number stand even ones
+-- beside an odd number are even ones
 beside_above : (a b : ℕ) → b ≡ a + 1 → 1 ≤ a % 2 → b % 2 ≡ 0
 beside_above a b e h = omega (arith, e, h)
 

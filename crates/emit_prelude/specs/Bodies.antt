@@ -92,7 +92,7 @@ wrap_body =
     (binary Add (binary Add offset_rest (argument 2)) (argument 1))
     (binary Add offset_rest (argument 1))
 
--- a pure function; which line its text stands on is left to the printer
+-- a pure function; which line its text is on is left to the printer
 abbrev pub function_with : List ℕ → List (List ℕ) → ExprTree → PureTree
 function_with name params body = record { name = name; params = params; body = body; line = 0 }
 

@@ -22,7 +22,7 @@ fn cycle(r: &Resolved) -> u32
 
 /// The program of a model without a loop, in time linear in its rows and the headers of its systems.
 ///
-/// Fails only for want of memory.
+/// Fails only when memory runs out.
 pub fn emit(alloc: Global, r: &Resolved) -> Result<Emitted, Memory>
     requires { HasNoLoop (needs_of (diagram_of r.now)) }
     ensures { IfOk result (λ e. IsEmittedFrom r.now e) }

@@ -78,7 +78,7 @@ pures-before earlier (f ∷ fs) n count h = (
 
 -- ---- What is called is needed
 
--- of what is called from behind all is called from anywhere
+-- of what is called by later code all is called from anywhere
 pub later-needed : (later : List ℕ) (fs : List PureTree) (n k : ℕ) → has_number later k ≡ true →
     has_number (needed_from later n fs) k ≡ true
 later-needed later [] n k h = h
@@ -87,7 +87,7 @@ later-needed later (f ∷ fs) n k h =
     has-left rest (if has_number rest n then expr_functions f.body else []) k (later-needed later fs (suc n) k h)
 
 module _ (keeps : ℕ → Bool) where
-  -- Each function from n on is closed, where all that is needed is kept, and nothing at or behind n that isn't called from behind.
+  -- Each function from n on is closed, where all that is needed is kept, and nothing at or after n that isn't called by later code.
   pub needed-closed : (later : List ℕ) (fs : List PureTree) (n : ℕ) → CallBefore n fs →
       ((k : ℕ) → has_number (needed_from later n fs) k ≡ true → k < n + length fs → keeps k ≡ true) →
       ((k : ℕ) → n ≤ k → keeps k ≡ true → has_number (needed_from later n fs) k ≡ true) →

@@ -1,4 +1,4 @@
--- Lawful code is lawful by other positions of pure functions, where the functions that it calls stand there.
+-- Lawful code is lawful by other positions of pure functions, where the functions that it calls are there.
 use Rattle.std.specs.Prelude.{◌≡◌, ℕ, ◌+◌, max, List, ◌++◌, map, length, Some, slice_get, option_map}
 use Rattle.std.specs.List.{AllByRecursion}
 use Rattle.std.proofs.Common.{refl, sym, ap, ◌∙◌}
@@ -79,7 +79,7 @@ module _ (place : ℕ → ℕ) where
 
   -- ---- What is lawful
 
-  -- the function at a position stands among the kept ones at its place, with as many parameters
+  -- the function at a position is among the kept ones at its place, with as many parameters
   abbrev pub Stands : (pures kept : List PureTree) → ℕ → Type 0
   Stands pures kept k =
       (f : PureTree) → slice_get pures k ≡ Some f →

@@ -9,12 +9,12 @@ use Rattle.emit_pruned.specs.Calls.{expr_functions, procedures_functions}
 abbrev pub has_number : List ℕ → ℕ → Bool
 has_number numbers k = list_any (λ j. j == k) numbers
 
--- behind what later code calls, what the function at position n does, if that code calls it
+-- after what later code calls, what the function at position n does, if that code calls it
 abbrev pub with_calls : List ℕ → ℕ → PureTree → List ℕ
 with_calls later n f = later ++ (if has_number later n then expr_functions f.body else [])
 
 -- the functions that are called by later code, which calls these, and by those of the functions
--- from position n on that are called themselves; a function is called from behind alone
+-- from position n on that are called themselves; a function is called by later code alone
 abbrev pub needed_from : List ℕ → ℕ → List PureTree → List ℕ
 needed_from later n [] = later
 needed_from later n (f ∷ fs) = with_calls (needed_from later (suc n) fs) n f

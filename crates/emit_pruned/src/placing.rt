@@ -6,7 +6,7 @@ use crate::places::Places;
 use base_core::Memory;
 use std::alloc::Global;
 
-/// The places of the functions that are needed. Fails for want of memory, or where a position would pass 32 bits.
+/// The places of the functions that are needed. Fails when memory runs out, or if a position would pass 32 bits.
 pub(crate) fn places_of(alloc: Global, needed: &[bool]) -> Result<Places, Memory>
     ensures { IfOk result
         (λ places. (k : ℕ) → place_in places k ≡ kept_before (flag_at needed.now) k) }

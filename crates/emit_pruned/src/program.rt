@@ -91,7 +91,7 @@ fn renumbered_procedures(
 /// A program without the pure functions that it doesn't need, in time linear in its code.
 ///
 /// The structs are those of the program; its functions and procedures are built anew, so for a while there are two of each.
-/// Fails only for want of memory, or where a position would pass 32 bits.
+/// Fails only when memory runs out, or where a position would pass 32 bits.
 pub fn pruned(alloc: Global, program: Program) -> Result<Program, Memory>
     ensures { IfOk result (λ p. program_tree p ≡ pruned_trees.pruned (program_tree program)) }
 {

@@ -76,7 +76,7 @@ module _ (scope : Scope) (cells : Cells) where
       (items_are_stored scope 0 field index e cells steps).stored k v (steps + 1) (steps + 1) room (at (steps + 1)) inside
       (is (steps + 1)) takes
 
--- stores behind a store
+-- stores after a store
 pub then_stored : (scope : Scope) (first : StmtTree) (rest : StmtTrees) (cells between after : Cells) (steps middle end field : ℕ)
     (fields : List ℕ) →
     run_stmt scope first cells steps ≡ leaves between middle (field ∷ []) → run_stmts scope rest between middle ≡ leaves after end fields →

@@ -1,4 +1,4 @@
--- Sixteen parts at most, joined two by two in four rounds: no part stands deeper than four joints.
+-- Sixteen parts at most, joined two by two in four rounds: no part is deeper than four joints.
 use Rattle.std.specs.Prelude.{List, [], ◌∷◌}
 
 -- each two neighbours joined; the last one stays as it is where it has none
@@ -12,7 +12,7 @@ abbrev pub first_or : {E : Type 0} → E → List E → E
 first_or none [] = none
 first_or none (e ∷ es) = e
 
--- the parts behind four rounds, in which sixteen become one
+-- the parts after four rounds, in which sixteen become one
 abbrev pub rounds : {E : Type 0} → (E → E → E) → List E → List E
 rounds join es = pairs join (pairs join (pairs join (pairs join es)))
 

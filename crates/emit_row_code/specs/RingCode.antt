@@ -1,6 +1,6 @@
 -- The code of a delay of several samples: an array of its items, the place of the oldest one, and
 -- how many were taken since the start. Until so many were taken as it has items, the oldest sample
--- is the start, whatever stands in its place.
+-- is the start, whatever is in its place.
 use Rattle.std.specs.Prelude.{ℕ, [], ◌∷◌, ℤ, pos}
 use Rattle.base_core.specs.declared.Compare.TheVariants.{Lt}
 use Rattle.c_syntax.specs.declared.BinOp.TheVariants.{Add, Rem}
@@ -30,7 +30,7 @@ abbrev pub next_taken_code : RingFields → ℕ → ExprTree
 next_taken_code ring n =
     pick (is_filling_code ring n) (binary Add (taken_read ring) (literal (pos 1))) (taken_read ring)
 
--- the next of n places, and the first one behind the last
+-- the next of n places, and the first one after the last
 abbrev pub next_place_code : RingFields → ℕ → ExprTree
 next_place_code ring n =
     binary Rem (binary Add (place_read ring) (literal (pos 1))) (literal (pos n))

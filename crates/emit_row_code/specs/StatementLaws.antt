@@ -39,7 +39,7 @@ abbrev pub test_steps : Option CondTree → ℕ
 test_steps None = 0
 test_steps (Some test) = 1
 
--- ---- What stands before
+-- ---- What comes before
 
 -- a test comes to this truth value, by arguments and own fields; no test stands for `none`
 abbrev pub TestsTo : Scope → Cells → (none : Bool) → Option CondTree → Bool → Type 0

@@ -48,7 +48,7 @@ fn falls(alloc: Global, leaves: ControlLeaves) -> Result<Cond, Memory>
     both(alloc, was(leaves, HIGH), is_low)
 }
 
-/// An event stands.
+/// An event holds.
 fn event(alloc: Global, edge: Edge, leaves: ControlLeaves) -> Result<Cond, Memory>
     ensures { IfOk result (λ c. cond_tree c ≡ code.event_test edge leaves) }
 {
@@ -62,7 +62,7 @@ fn event(alloc: Global, edge: Edge, leaves: ControlLeaves) -> Result<Cond, Memor
 /// The test that a system inside an active one is active; `None` always holds. The trigger counts only where it was low
 /// before it rises, or high before it falls.
 ///
-/// Fails only for want of memory.
+/// Fails only when memory runs out.
 pub fn active_by(
     alloc: Global,
     control: Control,
@@ -83,7 +83,7 @@ pub fn active_by(
 
 /// The test that the enable of a system inside an active one is low; `None` never holds.
 ///
-/// Fails only for want of memory.
+/// Fails only when memory runs out.
 pub fn disabled_by(
     alloc: Global,
     control: Control,
@@ -102,7 +102,7 @@ pub fn disabled_by(
 /// The test that a system inside an active one is off: its enable is low, and it loses its states then; `None` never
 /// holds.
 ///
-/// Fails only for want of memory.
+/// Fails only when memory runs out.
 pub fn off_by(
     alloc: Global,
     control: Control,
@@ -123,7 +123,7 @@ pub fn off_by(
 
 /// The test that the tick read here is one of the sample time; `None` always holds.
 ///
-/// Fails only for want of memory.
+/// Fails only when memory runs out.
 pub fn hit_test(alloc: Global, time: Time, now: Leaf) -> Result<Option<Cond>, Memory>
     ensures { IfOk result (λ test. option_map cond_tree test ≡ code.hit_test time now) }
 {
@@ -141,7 +141,7 @@ pub fn hit_test(alloc: Global, time: Time, now: Leaf) -> Result<Option<Cond>, Me
 
 /// Both of two tests, in one; `None` always holds.
 ///
-/// Fails only for want of memory.
+/// Fails only when memory runs out.
 pub fn both_tests(
     alloc: Global,
     first: Option<Cond>,
@@ -159,7 +159,7 @@ pub fn both_tests(
 
 /// What a trigger remembers of its level in an active system: 1 low, 2 high.
 ///
-/// Fails only for want of memory.
+/// Fails only when memory runs out.
 pub fn level_code(alloc: Global, trigger: Leaf) -> Result<Expr, Memory>
     ensures { IfOk result (λ e. expr_tree e ≡ code.level_code trigger) }
 {

@@ -11,7 +11,7 @@ use c_syntax::{BinOp, Expr};
 use diagram_blocks::How;
 use std::alloc::Global;
 
-/// The positions of `clamp` and `wrap` among the pure functions; those that round stand before them.
+/// The positions of `clamp` and `wrap` among the pure functions; those that round are before them.
 const CLAMP: u32 = 6;
 
 const WRAP: u32 = 7;

@@ -69,7 +69,7 @@ pub(crate) fn call(function: u32, values: Vec<Expr>) -> Expr
 
 /// A number as C writes it: a literal has no sign.
 ///
-/// Fails only for want of memory.
+/// Fails only when memory runs out.
 pub fn written(alloc: Global, v: i64) -> Result<Expr, Memory>
     requires { unsigned_abs v < 2 ^ 63 }
     ensures { IfOk result (λ e. expr_tree e ≡ code.written v) }

@@ -40,7 +40,7 @@ fn item_at_place(alloc: Global, ring: RingFields) -> Result<Expr, Memory>
 /// What a delay of `length` samples remembers from `length` samples before: its start until so many were taken, and then
 /// the oldest of its items.
 ///
-/// Fails only for want of memory.
+/// Fails only when memory runs out.
 pub fn oldest_code(alloc: Global, ring: RingFields, length: u32, start: i64) -> Result<Expr, Memory>
     requires { unsigned_abs start < 2 ^ 63 }
     ensures { IfOk result (λ e. expr_tree e ≡ code.oldest_code ring length start) }
@@ -62,7 +62,7 @@ fn next_taken(alloc: Global, ring: RingFields, length: u32) -> Result<Expr, Memo
     choice(alloc, is_filling(ring, length), more, taken(ring))
 }
 
-/// The next place, and the first one behind the last.
+/// The next place, and the first one after the last.
 fn next_place(alloc: Global, ring: RingFields, length: u32) -> Result<Expr, Memory>
     ensures { IfOk result (λ e. expr_tree e ≡ code.next_place_code ring length) }
 {

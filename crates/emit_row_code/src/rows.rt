@@ -211,7 +211,7 @@ fn logic_value(alloc: Global, op: Logic, inputs: &[Leaf]) -> Result<Expr, Memory
 /// row's type holds each exact result, nothing brings this into the type, and where they show which input a switch passes,
 /// nothing is asked. `memory` is the expression for what a delay remembers; any other row drops it.
 ///
-/// Fails only for want of memory.
+/// Fails only when memory runs out.
 pub fn value_code(
     alloc: Global,
     op: &Op,

@@ -81,7 +81,7 @@ fn store(alloc: Global, field: u32, value: Expr) -> Result<Vec<Stmt>, Memory>
 /// The statements for a row's value: where the row runs, it is stored in the own field at a position. `runs` is the test
 /// that the system is active and the tick is one of the row's, in one; `None` always holds.
 ///
-/// Fails only for want of memory.
+/// Fails only when memory runs out.
 pub fn value_statements(
     alloc: Global,
     field: u32,
@@ -95,10 +95,10 @@ pub fn value_statements(
     guarded(alloc, runs, stored, Vec::new(alloc))
 }
 
-/// The statements that give an output its start where the enable of its system is low; they stand before those for its
+/// The statements that give an output its start where the enable of its system is low; they are before those for its
 /// value. `None` never holds.
 ///
-/// Fails only for want of memory.
+/// Fails only when memory runs out.
 pub fn value_reset_statements(
     alloc: Global,
     field: u32,
@@ -134,7 +134,7 @@ fn memory_stores(
 /// The statements for the memory of a delay of one sample: it takes the input where the row runs, and else its start where
 /// the system is off. `runs` always holds where it is `None`, and `off` never.
 ///
-/// Fails only for want of memory.
+/// Fails only when memory runs out.
 pub fn memory_statements(
     alloc: Global,
     field: u32,
@@ -156,7 +156,7 @@ pub fn memory_statements(
 /// The statements for the memory of a delay of `length` samples, under the same tests: it takes the input in place of its
 /// oldest sample, and it is emptied.
 ///
-/// Fails only for want of memory.
+/// Fails only when memory runs out.
 pub fn ring_statements(
     alloc: Global,
     ring: RingFields,
@@ -174,10 +174,10 @@ pub fn ring_statements(
     guarded(alloc, runs, taken, begun)
 }
 
-/// The statements for what a trigger remembers. They stand in the update, which is called only where the system around is
-/// active, behind all that tests the activity.
+/// The statements for what a trigger remembers. They are in the update, which is called only where the system around is
+/// active, after all that tests the activity.
 ///
-/// Fails only for want of memory.
+/// Fails only when memory runs out.
 pub fn trigger_statements(alloc: Global, field: u32, trigger: Leaf) -> Result<Vec<Stmt>, Memory>
     ensures { IfOk result
         (λ v. stmts_of_list (map stmt_tree v.items) ≡ code.trigger_statements field trigger) }
@@ -208,7 +208,7 @@ fn child_call(
 /// child is in the own field at a position, and its procedure at one in the program; an argument is what its leaf reads.
 /// `None` always holds.
 ///
-/// Fails only for want of memory.
+/// Fails only when memory runs out.
 pub fn call_statements(
     alloc: Global,
     active: Option<Cond>,
@@ -225,7 +225,7 @@ pub fn call_statements(
 
 /// The statements that reset a child where the system is off; `None` never holds.
 ///
-/// Fails only for want of memory.
+/// Fails only when memory runs out.
 pub fn reset_call_statements(
     alloc: Global,
     off: Option<Cond>,

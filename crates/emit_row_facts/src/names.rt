@@ -6,7 +6,7 @@ ghost use Rattle.emit_shape.specs.Names as names;
 use base_core::{Memory, Text};
 use std::alloc::Global;
 
-/// A name as it stands.
+/// A name as it is.
 pub fn named(alloc: Global, name: &str) -> Result<Text, Memory>
     ensures { IfOk result (λ t. t ≡ name.now) }
 {
@@ -23,7 +23,7 @@ pub fn system_name(alloc: Global, s: Option<u32>) -> Result<Text, Memory>
     }
 }
 
-/// One text behind another.
+/// One text after another.
 pub fn joined(alloc: Global, front: &[u8], back: &[u8]) -> Result<Text, Memory>
     ensures { IfOk result (λ t. t ≡ front.now ++ back.now) }
 {
@@ -40,7 +40,7 @@ fn with_end(alloc: Global, s: Option<u32>, end: &str) -> Result<Text, Memory>
     joined(alloc, system.bytes(), end.as_bytes())
 }
 
-// The name of a system with an end and a number behind it.
+// The name of a system with an end and a number after it.
 fn with_number(alloc: Global, s: Option<u32>, end: &str, number: u64) -> Result<Text, Memory>
     ensures { IfOk result (λ t. t ≡ systems.system_name s ++ end.now ++ decimal number) }
 {

@@ -1,4 +1,4 @@
--- The program that systems' codes come to: structs and procedures stand from the last code to the
+-- The program that systems' codes come to: structs and procedures go from the last code to the
 -- first, and those of `root` last.
 use Rattle.std.specs.Prelude.{ℕ, ◌+◌, ◌-◌, ◌==◌, Bool, false, if◌then◌else◌, List, [], ◌∷◌, ◌++◌, map, filter_map, find, flat_map, drop, reverse, length, sum_by, slice_index, slice_index_or, None, option_map, unwrap_or, pos, codes as text, decimal, bytes_eq}
 use Rattle.std.specs.List.{position_from, prefix_len, range_with_len, list_any, enumerate_from}
@@ -118,7 +118,7 @@ module _ (all : List SystemTree) where
       if bytes_eq q.name now_name then read (leaf.Own 0)
       else read (leaf.Param (unwrap_or (position_from (λ r. bytes_eq r.name q.name) 0 params) 0))
 
-  -- a call on `top`, which is behind the tick and the outputs
+  -- a call on `top`, which is after the tick and the outputs
   abbrev pub call_top : List ParamTree → ℕ → List ℕ → StmtTree
   call_top params outputs name =
       call 0 (procedure_position 0 name) (target.Child (outputs + 1))

@@ -10,7 +10,7 @@ use Rattle.emit_shape.specs.TinySamples.{child_code, outer_code}
 abbrev shared_program : ProgramTree
 shared_program = assembled (outer_code ∷ child_code ∷ []) outer_local 1 []
 
--- the child's procedures stand first, and its function, update, start and reset are the second to
+-- the child's procedures are first, and its function, update, start and reset are the second to
 -- the fifth
 child_first : first_procedure (outer_code ∷ child_code ∷ []) 0 ≡ 5
 child_first = refl

@@ -75,7 +75,7 @@ pub record HasSystemShape (p : ProgramTree) (d : Diagram) (delays : List Bool)
   pub used : AreUsed (names_in p (struct_place p s)) (counters_in fields.slots)
       (procedures_of p (struct_place p s))
 
--- pure functions are among the eight, whatever lines they stand on
+-- pure functions are among the eight, whatever lines they are on
 abbrev pub AreOfPrelude : List PureTree → Type 0
 AreOfPrelude = AllByRecursion (λ f. Contains function_trees (pure_without_lines f))
 

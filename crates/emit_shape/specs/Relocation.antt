@@ -5,7 +5,7 @@ use Rattle.c_syntax.specs.declared.Leaf.TheVariants.{Param, Own, Child}
 use Rattle.c_syntax.specs.Tree.{ExprTree, ExprTrees, CondTree, StmtTree, assign, assign_at, branch, call, StmtTrees, no_stmts, more_stmts, ProcedureTree}
 use Rattle.c_semantics.specs.MappedLeaves.{mapped_expr, mapped_exprs, mapped_cond}
 
--- Where code goes: its own procedures, which are so many, stand from `first` on; the k-th that its
+-- Where code goes: its own procedures, which are so many, begin at `first`; the k-th that its
 -- children offer goes to `offered k`, and the outputs of the child at a field to others; and its
 -- struct goes to `of`.
 pub record Relocation : Type 0 where
@@ -15,8 +15,8 @@ pub record Relocation : Type 0 where
   pub output : (field output : ℕ) → ℕ
   pub of : ℕ
 
--- own procedures, which are so many, behind all that the children offer, which are so many and
--- stand in their order
+-- own procedures, which are so many, after all that the children offer, which are so many and
+-- are in their order
 abbrev pub behind_children : (own children : ℕ) (output : ℕ → ℕ → ℕ) (of : ℕ) → Relocation
 behind_children own children output of =
     record { own = own; first = children; offered = λ k. k; output = output; of = of }

@@ -60,7 +60,7 @@ counters_in (filler ∷ slots) = counters_in slots
 abbrev pub ring_slots : LocalRow → List Slot
 ring_slots r = ring_items r ∷ ring_place r ∷ ring_taken r ∷ []
 
--- the slots of a system, but for counters and the filler
+-- the slots of a system, except for counters and the filler
 abbrev pub own_slots : LocalSystem → List Slot
 own_slots local =
     map value (filter (λ r. has_value r.kind) local.rows)

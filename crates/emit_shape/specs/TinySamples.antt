@@ -70,7 +70,7 @@ y1 = local_row shared_child [] 4
 abbrev pub child_code : SystemTree
 child_code = inner_code x1 y1
 
--- The code of the root around it: both functions hold In1 and the call of the child, so these stand
+-- The code of the root around it: both functions hold In1 and the call of the child, so these are
 -- in a group of their own.
 
 -- In1, In2, the Sum, Out1 and Out2, the child, and three counters

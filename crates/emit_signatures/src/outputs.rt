@@ -9,7 +9,7 @@ use std::alloc::Global;
 
 /// The fields of the outputs' values of a system, by port.
 ///
-/// Fails only for want of memory.
+/// Fails only when memory runs out.
 pub fn output_fields(alloc: Global, layout: &Layout<'_>) -> Result<Vec<u32>, Memory>
     ensures { IfOk result (λ v. v.items
         ≡ map (λ o. fields.value_field layout.now.local o.row) (locals.outports layout.now.local)) }

@@ -11,7 +11,7 @@ use std::alloc::Global;
 
 /// The parameters of function `j` of a system, from 1 on.
 ///
-/// Fails only for want of memory.
+/// Fails only when memory runs out.
 pub fn out_params(alloc: Global, layout: &Layout<'_>, j: u32) -> Result<Params, Memory>
     requires first { 0 < j }
     requires last { j ≤ length layout.now.profile.functions }
@@ -27,7 +27,7 @@ pub fn out_params(alloc: Global, layout: &Layout<'_>, j: u32) -> Result<Params, 
 
 /// The parameters of a system's update.
 ///
-/// Fails only for want of memory.
+/// Fails only when memory runs out.
 pub fn update_params(alloc: Global, layout: &Layout<'_>) -> Result<Params, Memory>
     ensures { IfOk result (λ p. p
         ≡ (heads.update_head (locals.own_header layout.now.local layout.now.profile)).params) }
@@ -38,7 +38,7 @@ pub fn update_params(alloc: Global, layout: &Layout<'_>) -> Result<Params, Memor
 
 /// The parameters of the procedure of a group.
 ///
-/// Fails only for want of memory.
+/// Fails only when memory runs out.
 pub fn group_params(alloc: Global, layout: &Layout<'_>, group: u32) -> Result<Params, Memory>
     requires { group < length layout.now.schedule.groups }
     ensures { IfOk result (λ p. p

@@ -20,7 +20,7 @@ use std::alloc::Global;
 
 /// The struct of the system of a layout.
 ///
-/// Fails only for want of memory.
+/// Fails only when memory runs out.
 pub fn structure(alloc: Global, layout: &Layout<'_>) -> Result<StructDef, Memory>
     ensures { IfOk result (λ s. s
         ≡ record {

@@ -12,7 +12,7 @@ use std::alloc::Global;
 
 /// A program as it is printed: it does the same in no more steps, with less code.
 ///
-/// Fails only for want of memory, or where a position would pass 32 bits.
+/// Fails only when memory runs out, or where a position would pass 32 bits.
 pub fn simplified(alloc: Global, program: Program) -> Result<Program, Memory>
     requires { IsLawful (program_tree program) }
     ensures { IfOk result

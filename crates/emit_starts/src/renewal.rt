@@ -13,12 +13,12 @@ use emit_layout::Layout;
 use modules_profile::ChildUse;
 use std::alloc::Global;
 
-// How far the start and the reset of a child stand behind its update.
+// How far the start and the reset of a child come after its update.
 const START: u32 = 1;
 
 const RESET: u32 = 2;
 
-/// A call of what stands so far behind the update of the child at a place.
+/// A call of what is so far after the update of the child at a place.
 fn call_behind(
     alloc: Global,
     layout: &Layout<'_>,
@@ -40,7 +40,7 @@ fn call_behind(
     }
 }
 
-/// Adds a call of what stands so far behind the update of each child.
+/// Adds a call of what is so far after the update of each child.
 fn push_child_calls(
     alloc: Global,
     layout: &Layout<'_>,
@@ -61,7 +61,7 @@ fn push_child_calls(
 
 /// The statements of the start.
 ///
-/// Fails only for want of memory.
+/// Fails only when memory runs out.
 pub fn start_body(alloc: Global, layout: &Layout<'_>) -> Result<Vec<Stmt>, Memory>
     requires { IsEmittable layout.now.local layout.now.schedule }
     ensures { let of = layout.now in IfOk result (λ v. map stmt_tree v.items
@@ -78,7 +78,7 @@ pub fn start_body(alloc: Global, layout: &Layout<'_>) -> Result<Vec<Stmt>, Memor
 
 /// The statements of the reset.
 ///
-/// Fails only for want of memory.
+/// Fails only when memory runs out.
 pub fn reset_body(alloc: Global, layout: &Layout<'_>) -> Result<Vec<Stmt>, Memory>
     requires { IsEmittable layout.now.local layout.now.schedule }
     ensures { IfOk result (λ v. map stmt_tree v.items

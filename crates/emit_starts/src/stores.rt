@@ -122,7 +122,7 @@ fn push_trigger(layout: &Layout<'_>, body: &mut Vec<Stmt>) -> Result<(), Memory>
 
 /// Adds what gives the values of a system's rows their starts.
 ///
-/// Fails only for want of memory.
+/// Fails only when memory runs out.
 pub(crate) fn push_value_starts(
     alloc: Global,
     layout: &Layout<'_>,
@@ -137,7 +137,7 @@ pub(crate) fn push_value_starts(
 
 /// Adds what makes a system's memories those before the first tick.
 ///
-/// Fails only for want of memory.
+/// Fails only when memory runs out.
 pub(crate) fn push_memory_starts(
     alloc: Global,
     layout: &Layout<'_>,
@@ -156,7 +156,7 @@ pub(crate) fn push_memory_starts(
 
 /// What brings the counters of a system back.
 ///
-/// Fails only for want of memory.
+/// Fails only when memory runs out.
 pub fn counter_stores(alloc: Global, layout: &Layout<'_>) -> Result<Vec<Stmt>, Memory>
     requires { IsEmittable layout.now.local layout.now.schedule }
     ensures { IfOk result (λ v. map stmt_tree v.items

@@ -1,4 +1,4 @@
--- Calls of groups whose parameters stand in a list by their numbers, and the functions that consist of them.
+-- Calls of groups whose parameters are in a list by their numbers, and the functions that consist of them.
 use Rattle.std.specs.List.{range_with_len}
 use Rattle.std.proofs.Common.{◌≡◌, refl, ap, ap₂, ◌∙◌, ℕ, ◌<◌, List, [], ◌∷◌, map, length, All, get_or, slice_index_or, false, zero-add, arith}
 use Rattle.std.proofs.lemmas.List.{get_or-map}
@@ -13,7 +13,7 @@ use Rattle.emit_shape.specs.Heads.{out_head}
 use Rattle.emit_shape.specs.Names.{out_name}
 use Rattle.emit_system_spec.specs.EmittedCode.{with_body, own_call, group_params, function_procedure}
 
--- what stands at a number is what was made for it
+-- what is at a number is what was made for it
 pub get_or_mapped_range : {A : Type 0} (f : ℕ → A) (n k : ℕ) (d : A) → k < n → get_or (map f (range_with_len 0 n)) k d ≡ f k
 get_or_mapped_range f n k d inside =
     let within : k < length (range_with_len 0 n) = let l = length-range_with_len 0 n in omega (arith, l, inside) in

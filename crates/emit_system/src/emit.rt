@@ -13,7 +13,7 @@ use std::alloc::Global;
 
 /// The code of a system that is laid out.
 ///
-/// Fails only for want of memory.
+/// Fails only when memory runs out.
 pub fn code_of_system(alloc: Global, layout: &Layout<'_>) -> Result<SystemCode, Memory>
     requires emittable { IsEmittable layout.now.local layout.now.schedule }
     requires agree { AgreeOnFunctions layout.now.profile layout.now.schedule }

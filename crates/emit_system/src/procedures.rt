@@ -39,7 +39,7 @@ fn procedure(name: Text, private: bool, params: Vec<(Text, CType)>, body: Vec<St
 
 /// The procedure of a group with these parameters.
 ///
-/// Fails only for want of memory.
+/// Fails only when memory runs out.
 fn group_procedure(
     alloc: Global,
     layout: &Layout<'_>,
@@ -61,7 +61,7 @@ fn group_procedure(
 
 /// The procedure that updates the system.
 ///
-/// Fails only for want of memory.
+/// Fails only when memory runs out.
 fn update_procedure(alloc: Global, layout: &Layout<'_>) -> Result<Procedure, Memory>
     requires { IsEmittable layout.now.local layout.now.schedule }
     ensures { let head = heads.update_head (own_header layout.now.local layout.now.profile) in
@@ -76,7 +76,7 @@ fn update_procedure(alloc: Global, layout: &Layout<'_>) -> Result<Procedure, Mem
 
 /// The procedure that starts the system.
 ///
-/// Fails only for want of memory.
+/// Fails only when memory runs out.
 fn start_procedure(alloc: Global, layout: &Layout<'_>) -> Result<Procedure, Memory>
     requires { IsEmittable layout.now.local layout.now.schedule }
     ensures { let of = layout.now in let head = heads.start_head (own_header of.local of.profile) in
@@ -90,7 +90,7 @@ fn start_procedure(alloc: Global, layout: &Layout<'_>) -> Result<Procedure, Memo
 
 /// The procedure that resets the system.
 ///
-/// Fails only for want of memory.
+/// Fails only when memory runs out.
 fn reset_procedure(alloc: Global, layout: &Layout<'_>) -> Result<Procedure, Memory>
     requires { IsEmittable layout.now.local layout.now.schedule }
     ensures { let head = heads.reset_head (own_header layout.now.local layout.now.profile) in
@@ -191,7 +191,7 @@ fn push_functions(
 
 /// The procedures of a system.
 ///
-/// Fails only for want of memory.
+/// Fails only when memory runs out.
 pub(crate) fn procedures(alloc: Global, layout: &Layout<'_>) -> Result<Vec<Procedure>, Memory>
     requires emittable { IsEmittable layout.now.local layout.now.schedule }
     requires agree { AgreeOnFunctions layout.now.profile layout.now.schedule }

@@ -109,7 +109,7 @@ fn level_code(alloc: Global, layout: &Layout<'_>, params: &Params) -> Result<Vec
 
 /// The statements of the update.
 ///
-/// Fails only for want of memory.
+/// Fails only when memory runs out.
 pub(crate) fn update_body(
     alloc: Global,
     layout: &Layout<'_>,

@@ -25,7 +25,7 @@ use Rattle.emit_system_spec.specs.NodeCode.{code_at, memory_code, trigger_code, 
 use Rattle.emit_system_spec.specs.Heads.{port_types, params_where, takes, inports_among}
 use Rattle.emit_system_spec.specs.Renewing.{counter_stores, start_body, reset_body}
 
--- pieces of code, one behind the other
+-- pieces of code, one after the other
 abbrev pub joined : List StmtTrees → StmtTrees
 joined [] = no_stmts
 joined (code ∷ codes) = stmts_append code (joined codes)

@@ -44,7 +44,7 @@ value_field local b = place_among (value_rows local) b
 abbrev pub memory_field : LocalSystem → ℕ → ℕ
 memory_field local b = length (value_rows local) + place_among (single_rows local) b
 
--- the first of the three fields of a ring, which stand together: its items, its place and its count
+-- the first of the three fields of a ring, which are together: its items, its place and its count
 abbrev pub ring_field : LocalSystem → ℕ → ℕ
 ring_field local b =
     length (value_rows local) + length (single_rows local) + 3 * place_among (line_rows local) b

@@ -11,7 +11,7 @@ abbrev pub has_some : List ℕ → Bool
 has_some [] = false
 has_some (k ∷ ks) = true
 
--- the groups that have nodes; the one of what no function holds has none, and stands last
+-- the groups that have nodes; the one of what no function holds has none, and is last
 abbrev pub code_groups : SystemSchedule → List ℕ
 code_groups schedule =
     filter (λ g. has_some (group_nodes schedule g)) (range_with_len 0 (length schedule.groups))

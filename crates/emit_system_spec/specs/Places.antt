@@ -26,7 +26,7 @@ node_places local = map Row (range_with_len 0 (length local.rows))
 
 -- ---- Procedures of children, where so many are the system's own
 
--- the first procedure of the child at a place: in front stand those of the children before it
+-- the first procedure of the child at a place: in front are those of the children before it
 abbrev pub child_base : LocalSystem → (count : ℕ) → ℕ → ℕ
 child_base local count k =
     count + sum_by (λ u. length (header_functions u.header) + 3) (take k local.children)

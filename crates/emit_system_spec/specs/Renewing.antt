@@ -18,7 +18,7 @@ use Rattle.emit_system_spec.specs.NodeCode.{ring_fields}
 abbrev pub zero_store : ℕ → StmtTree
 zero_store f = assign 0 f nought
 
--- the counters stand behind the children
+-- the counters come after the children
 abbrev pub counter_stores : LocalSystem → SystemSchedule → List StmtTree
 counter_stores local schedule =
     map zero_store
@@ -52,7 +52,7 @@ memory_starts local = single_starts local ++ line_starts local ++ trigger_starts
 
 -- Where so many procedures are the system's own.
 module _ (local : LocalSystem) (count : ℕ) where
-  -- the procedure behind a child's functions at this place: its update is 0, its start 1, its reset
+  -- the procedure after a child's functions at this place: its update is 0, its start 1, its reset
   -- 2
   abbrev pub call_behind : ℕ → ℕ × ChildUse → StmtTree
   call_behind i e =

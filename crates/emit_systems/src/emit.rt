@@ -17,7 +17,7 @@ use std::alloc::Global;
 /// The code of a system of a model without a loop, by its own rows, its profile and its schedule. It is right for the
 /// system, whatever code its children have that is right for them.
 ///
-/// In time linear in its rows, its children's headers and the calls of groups. Fails only for want of memory.
+/// In time linear in its rows, its children's headers and the calls of groups. Fails only if memory runs out.
 pub fn emit_system(
     alloc: Global,
     local: &Local,

@@ -34,8 +34,8 @@ pub struct Codes {
 
 /// The codes of all systems of a resolved tree without a loop, each right by itself, and the profiles that they are made from.
 ///
-/// They are made from the innermost systems outward, each once, in time linear in the model's rows and headers but for
-/// the schedules. A code is moved once for each system around its own.
+/// They are made from the innermost systems outward, each once, in time linear in the model's rows and headers except
+/// for the schedules. A code is moved once for each system around its own.
 pub fn codes_of(alloc: Global, r: &Resolved) -> Result<Codes, Memory>
     requires { HasNoLoop (needs_of (diagram_of r.now)) }
     ensures codes { IfOk result

@@ -31,7 +31,7 @@ WaitsFor outcome values name =
 abbrev pub WaitsAlways : (List (Option ℤ) → Outcome) → List (Option ℤ) → Type 0
 WaitsAlways outcome values = (later : List (Option ℤ)) → ValuesStay values later → outcome later ≡ waits
 
--- what has this outcome waits for the name that is told, which has no value
+-- what has this outcome waits for the name that is reported, which has no value
 abbrev pub IsWaiting : (List (Option ℤ) → Outcome) → List (Option ℤ) → Unmet → Type 0
 IsWaiting outcome values (Waits name) =
     (name < length values) × (value_at values name ≡ None) × WaitsFor outcome values name

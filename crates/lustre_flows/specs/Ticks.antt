@@ -50,14 +50,14 @@ settled f before row = settle (root_pass f before row) (name_count (fresh_root f
 
 -- ---- Where a tick is stuck
 
--- what is told of an instance, and then of those inside it
+-- what is reported of an instance, and then of those inside it
 abbrev pub Look : Type 0
 Look = (before : Option Instance) → Instance → List LusStuck
 
 abbrev pub look_at : List Look → ℕ → Look
 look_at looks k = slice_index_or looks k (λ before i. [])
 
--- what is told of the instances of calls, in their order
+-- what is reported of the instances of calls, in their order
 abbrev pub look_inside : List Look → Option Instances → Instances → List EquationTree →
     List LusStuck
 look_inside looks before calls [] = []
@@ -66,7 +66,7 @@ look_inside looks before calls (call line given callee arguments ∷ es) =
     look_at looks callee (option_map first_call before) (first_call calls)
     ++ look_inside looks (option_map later_calls before) (later_calls calls) es
 
--- what is told of each instance of a node, where `told` says what is told of one equation
+-- what is reported of each instance of a node, where `told` says what is reported of one equation
 module _ (told : Option (List (Option ℤ)) → List (Option ℤ) → EquationTree → List LusStuck) where
   abbrev pub look_of : List Look → NodeTree → Look
   look_of earlier n before (instance values calls) =

@@ -6,7 +6,7 @@ use Rattle.c_grammar.specs.Grammar.{Spelling}
 use Rattle.base_core.specs.Results.{◌>>=◌}
 use Rattle.lustre_grammar.specs.Prefix.{Need, token_fault}
 
--- a claim of the result, or the fault that the needs tell
+-- a claim of the result, or the error that the needs report
 abbrev pub Given : {X : Type 0} → Option CFault → (X → Type 0) → Result X CFault → Type 0
 Given now claim (Ok x) = claim x
 Given now claim (Err fault) = now ≡ Some fault
@@ -33,7 +33,7 @@ pub turned : {X : Type 0} {now : Option CFault} {claim aim : X → Type 0} (answ
 turned (Ok x) a later = record { is = later x a.is }
 turned (Err fault) a later = record { is = a.is }
 
--- what is claimed of an answer that is a result, and of one that is a fault
+-- what is claimed of an answer that is a result, and of one that is an error
 pub claimed : {X : Type 0} {now : Option CFault} {claim : X → Type 0} (answer : Result X CFault) (x : X) →
     Answers now claim answer → answer ≡ Ok x → claim x
 claimed {X} {now} {claim} answer x a e = (subst (Answers now claim) e a).is

@@ -31,7 +31,7 @@ not-other text one other e d = ap (λ t. bytes_eq t other) ((bytes_eq-Decides te
 abbrev pub Needed : (last : ℕ) → (ℕ → List Need) → Option CFault → ℕ → List Token → Type 0
 Needed last needs now count tokens = now ≡ token_fault (needs count) last tokens
 
--- a mark before an element, where nothing else may stand
+-- a mark before an element, where nothing else may be
 pub mark-begins : (last : ℕ) (mark : List ℕ) (needs more : List Need) (now : Option CFault) (t : Token) (tokens : List Token) →
     now ≡ on_reply (with_needs (first_reply ((bytes_eq t.text mark, leaves needs) ∷ [])) more) t.line
     (λ left. token_fault left last tokens) →
@@ -145,7 +145,7 @@ module _ (last : ℕ) where
         ends now zero (t ∷ tokens) e h = h ∙ rw (not-other t.text (codes "=") (codes ",") e refl, e) refl
         ends now (suc count) (t ∷ tokens) e h = h ∙ rw (not-other t.text (codes "=") (codes ",") e refl, e) refl
 
-        -- a `,`, where no `=` stands
+        -- a `,`, where there is no `=`
         further : (now : Option CFault) (count : ℕ) (other : List Need) (t : Token) (tokens : List Token) →
             bytes_eq t.text (codes "=") ≡ false →
             now ≡ on_reply (with_needs (first_reply ((bytes_eq t.text (codes ","), leaves (name_need ∷ more_given_need ∷ []))

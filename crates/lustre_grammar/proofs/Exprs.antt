@@ -71,7 +71,7 @@ module _ (last depth : ℕ) (deeper : List Token → Parsed WrittenExpr) (reads 
       chain _ _ (word-reads last (codes ")") now more w.1 rn.goes) (λ close rc.
       record { is = record { spelled = λ t opens. rw (opens, e, rn.spelled) rc.spelled; goes = rc.goes } }))
 
-  -- two operands behind the first
+  -- two operands after the first
   second-reads : (now : Option CFault) (more : List Need) (start : List Token) (a : WrittenExpr) (tokens : List Token) →
       expr_spelling a start ≡ Some tokens → now ≡ token_fault (joint_need (depth + 1) ∷ more) last tokens →
       Answers now (ReadsInside last now more start)

@@ -35,7 +35,7 @@ closed-spelled (Some text) (t ∷ tokens) e = rw e refl
 
 module _ {X : Type 0} (last : ℕ) (form : Form) (spelling : X → Spelling) (stack ended : ℕ → List Need)
     (starts : Option CFault → ℕ → List Token → Type 0) where
-  -- the tokens from which an element is read, after what stands before it
+  -- the tokens from which an element is read, after what is before it
   pub record Begun (now : Option CFault) (count : ℕ) (tokens : List Token) (x : Unit {0} × List Token) : Type 0 where
     pub spelled : mark_spelling (lead_of form count) tokens ≡ Some x.1
     pub start : starts now count x.1

@@ -1,4 +1,4 @@
--- What the first fault of tokens is: the first token with which no file can go on, or that opens an
+-- What the first error of tokens is: the first token with which no file can go on, or that opens an
 -- expression beyond the limit.
 use Rattle.std.specs.Prelude.{◌≡◌, ◌⊎◌, ◌↔◌, ℕ, true, false, List, [], ◌∷◌, ◌++◌, length, take, slice_get, Some, None}
 use Rattle.std.specs.List.{list_all}
@@ -29,13 +29,13 @@ pub record OpensBeyond (before : List Token) (t : Token) : Type 0 where
   pub there : slice_get (openings file) (length before) ≡ Some opening
   pub beyond : is_within opening ≡ false
 
--- after the first tokens of a list, with which a file can go on, this token stands
+-- after the first tokens of a list, with which a file can go on, this token comes
 pub record Reaches (tokens before : List Token) (t : Token) : Type 0 where
   pub after : List Token
   pub list : tokens ≡ before ++ t ∷ after
   pub goes_on : GoesOn before
 
--- no file goes on with a token, and the fault is Syntax at its line
+-- no file goes on with a token, and the error is Syntax at its line
 pub record StopsAtToken (tokens : List Token) (fault : CFault) : Type 0 where
   pub before : List Token
   pub token : Token
@@ -43,7 +43,7 @@ pub record StopsAtToken (tokens : List Token) (fault : CFault) : Type 0 where
   pub stops : CanGoOn (before ++ token ∷ []) → ⊥
   pub is : fault ≡ fault_at token.line Syntax
 
--- a token opens an expression beyond the limit, and the fault is Deep at its line
+-- a token opens an expression beyond the limit, and the error is Deep at its line
 pub record StopsAtDepth (tokens : List Token) (fault : CFault) : Type 0 where
   pub before : List Token
   pub token : Token
@@ -51,13 +51,13 @@ pub record StopsAtDepth (tokens : List Token) (fault : CFault) : Type 0 where
   pub deep : OpensBeyond before token
   pub is : fault ≡ fault_at token.line Deep
 
--- a file can go on with the tokens, but they are none, and the fault is Syntax at the last line
+-- a file can go on with the tokens, but they are none, and the error is Syntax at the last line
 pub record StopsAtEnd (tokens : List Token) (last : ℕ) (fault : CFault) : Type 0 where
   pub goes_on : GoesOn tokens
   pub no_file : (f : WrittenFile) → Spells tokens f → ⊥
   pub is : fault ≡ fault_at last Syntax
 
--- the first fault of tokens is one of these, and where there is none they spell a file within the
+-- the first error of tokens is one of these, and where there is none they spell a file within the
 -- limit
 abbrev pub FaultsAreFirst : Type 0
 FaultsAreFirst =

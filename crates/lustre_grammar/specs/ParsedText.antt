@@ -8,11 +8,11 @@ use Rattle.lustre_grammar.specs.Grammar.{Spells}
 use Rattle.lustre_grammar.specs.Prefix.{file_needs, token_fault}
 use Rattle.lustre_grammar.specs.Parsing.{parse_file}
 
--- the file that is written in a text, or the first fault of the grammar
+-- the file that is written in a text, or the first error of the grammar
 abbrev pub parse_text : List ℕ → Result WrittenFile CFault
 parse_text bytes = parse_file (last_line bytes) (tokens_of bytes)
 
--- what the parse gives is spelled and has no fault; the fault that it gives is the first
+-- what the parse gives is spelled and has no error; the error that it gives is the first
 pub record ParsingAgrees : Type 0 where
   pub read : (last : ℕ) (tokens : List Token) (w : WrittenFile) → parse_file last tokens ≡ Ok w →
       Spells tokens w × (token_fault file_needs last tokens ≡ None)

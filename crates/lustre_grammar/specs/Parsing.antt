@@ -1,4 +1,4 @@
--- The written file of tokens by recursive descent, or their first fault. What it is of the grammar
+-- The written file of tokens by recursive descent, or their first error. What it is of the grammar
 -- is proved of it.
 use Rattle.std.specs.Prelude.{ℕ, zero, suc, pos, Bool, true, false, ◌||◌, if◌then◌else◌, List, [], ◌∷◌, drop, find, length, Option, Some, None, Result, Ok, Err, codes, bytes_eq}
 use Rattle.c_syntax.specs.declared.fault.CFault.{CFault}
@@ -71,7 +71,7 @@ inside_of text =
 
 -- ---- Lists
 
--- how a list is written: what stands before its first element, before each later one and after each,
+-- how a list is written: what is before its first element, before each later one and after each,
 -- if anything does, and what ends it, if not the end of the text
 pub record Form : Type 0 where
   pub first : Option (List ℕ)
@@ -123,7 +123,7 @@ arguments_form = record {
 abbrev pub nodes_form : Form
 nodes_form = record { first = None; later = None; after = None; close = None }
 
--- what stands before an element with so many before it
+-- what is before an element with so many before it
 abbrev pub lead_of : Form → ℕ → Option (List ℕ)
 lead_of form zero = form.first
 lead_of form (suc count) = form.later
@@ -147,7 +147,7 @@ Body = List WrittenDeclared × List WrittenEquation
 
 -- ---- The parse
 
--- `last` is the text's last line, where a fault at the end stands
+-- `last` is the text's last line, where an error at the end is
 module _ (last : ℕ) where
   -- a token with this text, if there is one
   abbrev pub parse_mark : Option (List ℕ) → List Token → Parsed (Unit {0})

@@ -69,7 +69,7 @@ with_needs (leaves needs) more = leaves (needs ++ more)
 abbrev pub only_if : Bool → Reply → Reply
 only_if test reply = if test then reply else refuses
 
--- the same, but for what opens beyond the limit
+-- the same, except for what opens beyond the limit
 abbrev pub within_limit : (depth : ℕ) → Reply → Reply
 within_limit depth refuses = refuses
 within_limit depth too_deep = too_deep
@@ -190,13 +190,13 @@ abbrev pub may_end : List Need → Bool
 may_end (nodes_need ∷ []) = true
 may_end needs = false
 
--- goes on with the needs that are left, or tells the fault at this line
+-- goes on with the needs that are left, or reports the error at this line
 abbrev pub on_reply : Reply → ℕ → (List Need → Option CFault) → Option CFault
 on_reply refuses line go = Some (fault_at line Syntax)
 on_reply too_deep line go = Some (fault_at line Deep)
 on_reply (leaves needs) line go = go needs
 
--- the first fault of syntax or depth in these tokens; `last` is the text's last line
+-- the first error of syntax or depth in these tokens; `last` is the text's last line
 abbrev pub token_fault : List Need → ℕ → List Token → Option CFault
 token_fault needs last [] = if may_end needs then None else Some (fault_at last Syntax)
 token_fault needs last (t ∷ tokens) =

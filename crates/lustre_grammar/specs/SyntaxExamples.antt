@@ -1,4 +1,4 @@
--- Texts that no file goes on from, or that open an expression too deep, with their first faults.
+-- Texts that no file goes on from, or that open an expression too deep, with their first errors.
 use Rattle.std.specs.Prelude.{◌≡◌, ℕ, zero, suc, List, [], ◌∷◌, ◌++◌, Option, Some, None, codes, refl}
 use Rattle.c_syntax.specs.declared.fault.CFault.{CFault}
 use Rattle.c_syntax.specs.declared.fault.CKind.TheVariants.{Syntax, Deep}
@@ -7,7 +7,7 @@ use Rattle.c_grammar.specs.TextLines.{text_of_lines}
 use Rattle.lustre_grammar.specs.Tokens.{tokens_of, last_line}
 use Rattle.lustre_grammar.specs.Prefix.{file_needs, token_fault}
 
--- the first fault of a text's tokens
+-- the first error of a text's tokens
 abbrev pub first_token_fault : List ℕ → Option CFault
 first_token_fault bytes = token_fault file_needs (last_line bytes) (tokens_of bytes)
 
@@ -95,7 +95,7 @@ inner_call = refl
 pub two_names : fault_with (codes "y1, x = u1;") ≡ Some (fault_at 3 Syntax)
 two_names = refl
 
--- the fault stands where the token does, also in an expression of several lines
+-- the error is where the token is, also in an expression of several lines
 pub later_line : fault_with (codes "y1 =\n(u1\n+ );") ≡ Some (fault_at 5 Syntax)
 later_line = refl
 
@@ -110,7 +110,7 @@ open_file = refl
 pub idle_node : first_token_fault (codes "node f () returns ();\nlet\ntel;\n") ≡ None
 idle_node = refl
 
--- `var` stands before at least one name
+-- `var` is before at least one name
 pub empty_var : first_token_fault (codes "node f () returns ();\nvar\nlet tel;\n")
     ≡ Some (fault_at 3 Syntax)
 empty_var = refl

@@ -1,4 +1,4 @@
-//! The grammar of Lustre: tokens, files as they are written, the first fault of tokens that spell none, and the parse by
+//! The grammar of Lustre: tokens, files as they are written, the first error of tokens that spell none, and the parse by
 //! recursive descent, which agrees with the grammar.
 #![tactic(auto)]
 

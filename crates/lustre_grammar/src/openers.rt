@@ -1,4 +1,4 @@
-// What a token begins, where something may stand.
+// What a token begins, where something may be.
 use lustre_syntax::LusOp;
 
 /// What a token after the `(` of an expression begins.

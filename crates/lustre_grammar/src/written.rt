@@ -5,9 +5,9 @@ use lustre_syntax::LusOp;
 /// A name that is read, with its line.
 #[derive(Clone, Copy, Drop)]
 pub struct LusWord<'a> {
-    /// The line where it stands, from 1.
+    /// The line where it is, from 1.
     pub line: u32,
-    /// The name, as it stands.
+    /// The name, as it is written.
     pub text: &'a [u8],
 }
 
@@ -41,7 +41,7 @@ pub enum LusWrittenEq<'a> {
     Set {
         /// The line of its first token, from 1.
         line: u32,
-        /// The name that it gives, as it stands.
+        /// The name that it gives, as it is written.
         given: &'a [u8],
         /// The expression.
         value: LusWrittenExpr<'a>,
@@ -50,9 +50,9 @@ pub enum LusWrittenEq<'a> {
     Call {
         /// The line of its first token, from 1.
         line: u32,
-        /// The names that it gives, as they stand.
+        /// The names that it gives, as they are written.
         given: Vec<&'a [u8]>,
-        /// The name of the node, as it stands.
+        /// The name of the node, as it is written.
         callee: &'a [u8],
         /// An expression for each input.
         values: Vec<LusWrittenExpr<'a>>,
@@ -62,9 +62,9 @@ pub enum LusWrittenEq<'a> {
 /// A declared name with its type.
 #[derive(Clone, Copy, Drop)]
 pub struct LusWrittenDecl<'a> {
-    /// The line where the name stands, from 1.
+    /// The line where the name is, from 1.
     pub line: u32,
-    /// The name, as it stands.
+    /// The name, as it is written.
     pub name: &'a [u8],
     /// Whether its type is `bool`, else it is `int`.
     pub is_bool: bool,
@@ -75,7 +75,7 @@ pub struct LusWrittenDecl<'a> {
 pub struct LusWrittenNode<'a> {
     /// The line of its first token, from 1.
     pub line: u32,
-    /// Its name, as it stands.
+    /// Its name, as it is written.
     pub name: &'a [u8],
     /// Its inputs, in order.
     pub inputs: Vec<LusWrittenDecl<'a>>,

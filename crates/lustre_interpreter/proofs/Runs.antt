@@ -155,7 +155,7 @@ module _ (frame : Frame) (instances : List Placed) (search : Searching) (ready :
         left-only f before row is-tick after.now size inputs-are (solved-by after.now solves)
         (on.least (left f before row is-tick) (solves-by (left f before row is-tick) (left-keeps f before row is-tick)) started-below)
 
-    -- nothing is told exactly where all values are there
+    -- nothing is reported exactly where all values are there
     none-told : list_all has_value after.now ≡ true → stuck_place f (frame_before frame) (frame_laid frame after.now) ≡ None
     none-told whole =
         subst (λ i. stuck_place f (frame_before frame) i ≡ None) (sym settled-is)

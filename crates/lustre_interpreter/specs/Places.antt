@@ -16,7 +16,7 @@ sooner (Some best) at = if nat_lt at.line best.line then Some at else Some best
 abbrev pub soonest : Option LusStuck → List LusStuck → Option LusStuck
 soonest best places = fold sooner best places
 
--- what is told of an equation
+-- what is reported of an equation
 abbrev pub telling : Told → Option (List (Option ℤ)) → List (Option ℤ) → EquationTree → List LusStuck
 telling Failures = failures
 telling Waiting = waiting

@@ -15,7 +15,7 @@ use lustre_flows::{LusStuck, LusWhy};
 use lustre_slots::Placed;
 use lustre_syntax::{LusEq, LusExpr, LusFile};
 
-/// What is told of equations.
+/// What is reported of equations.
 #[derive(Clone, Copy, Debug, PartialEq, Eq, Drop)]
 pub(crate) enum Told {
     /// Their expressions that are undefined.
@@ -123,7 +123,7 @@ fn waiting_in(view: &View, equation: &LusEq, best: Option<LusStuck>) -> Option<L
     }
 }
 
-// What is told of one equation.
+// What is reported of one equation.
 fn told_of(told: Told, view: &View, equation: &LusEq, best: Option<LusStuck>) -> Option<LusStuck>
     ensures { result ≡ soonest best (telling told
         (before_by view.now.begun view.now.before.now) view.now.values.now
@@ -135,7 +135,7 @@ fn told_of(told: Told, view: &View, equation: &LusEq, best: Option<LusStuck>) ->
     }
 }
 
-// What is told of equations.
+// What is reported of equations.
 fn told_among(
     told: Told,
     view: &View,
@@ -162,7 +162,7 @@ fn equations_of(file: &LusFile, node: usize) -> &[LusEq]
     }
 }
 
-// What is told of an instance.
+// What is reported of an instance.
 fn told_in(
     told: Told,
     frame: &Frame,
@@ -177,7 +177,7 @@ fn told_in(
     told_among(told, &view_of(frame, of, now), equations, best)
 }
 
-/// The first place with the least line of all that is told.
+/// The first place with the least line of all that is reported.
 pub(crate) fn least_place(
     told: Told,
     frame: &Frame,

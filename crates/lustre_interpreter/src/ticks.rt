@@ -82,7 +82,7 @@ fn input_count(file: &LusFile) -> usize
     }
 }
 
-/// Puts the outputs of the last node, which come after its inputs.
+/// Writes the outputs of the last node, which come after its inputs.
 pub(crate) fn put_outputs(file: &LusFile, values: &[i64], outputs: &mut [i64])
     requires { (last_node (file_tree file.now)).inputs + length outputs.old ≤ length values.now }
     ensures { outputs.new

@@ -1,4 +1,4 @@
--- What stands before the elements of a list.
+-- What is before the elements of a list.
 use Rattle.std.proofs.Common.{◌≡◌, refl, ℕ, zero, suc}
 use Rattle.lustre_grammar.specs.Parsing.{Form, lead_of}
 

@@ -23,7 +23,7 @@ pub(crate) enum Form {
 }
 
 impl Form {
-    // What stands before the first element, if anything does.
+    // What is before the first element, if anything is.
     fn first(self) -> Option<&'static [u8]>
         ensures { option_map (λ t. t.now) result ≡ (form_of self).first }
     {
@@ -34,7 +34,7 @@ impl Form {
         }
     }
 
-    // What stands before each later element, if anything does.
+    // What is before each later element, if anything is.
     fn later(self) -> Option<&'static [u8]>
         ensures { option_map (λ t. t.now) result ≡ (form_of self).later }
     {
@@ -45,7 +45,7 @@ impl Form {
         }
     }
 
-    /// What stands before an element with so many before it, if anything does.
+    /// What is before an element with so many before it, if anything is.
     #[tactic(auto, using(crate::proofs::Leads::later_lead))]
     pub(crate) fn lead(self, count: usize) -> Option<&'static [u8]>
         ensures { option_map (λ t. t.now) result ≡ parsing.lead_of (form_of self) count }
@@ -57,7 +57,7 @@ impl Form {
         }
     }
 
-    /// What stands after each element, if anything does.
+    /// What is after each element, if anything is.
     pub(crate) fn after(self) -> Option<&'static [u8]>
         ensures { option_map (λ t. t.now) result ≡ (form_of self).after }
     {

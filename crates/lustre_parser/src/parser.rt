@@ -27,7 +27,7 @@ fn file<'a>(reader: Reader, tokens: Tokens<'a>) -> Result<LusWrittenFile<'a>, Re
 ///
 /// # Errors
 ///
-/// `Refused` with the first fault of the grammar: `Syntax` or `Deep` at the first token with which no file goes on or that opens
+/// `Refused` with the first error of the grammar: `Syntax` or `Deep` at the first token with which no file goes on or that opens
 /// an expression more than 100 deep. `Memory` where memory ran out.
 pub fn parse_lustre<'a>(alloc: Global, bytes: &'a [u8]) -> Result<LusWrittenFile<'a>, ReadLusFault>
     ensures { Gives file_of result (parse_text bytes.now) }

@@ -1,4 +1,4 @@
-// The small parts of a file: each takes the tokens that it reads and gives those after them, or the first fault.
+// The small parts of a file: each takes the tokens that it reads and gives those after them, or the first error.
 ghost use Rattle.std.specs.Prelude.{◌≡◌, option_map};
 ghost use Rattle.c_grammar.specs.Parsing as words;
 ghost use Rattle.c_expressions.specs.Gives.{passed, read_as};
@@ -12,17 +12,17 @@ use lustre_grammar::{LusWord, ReadLusFault};
 use lustre_tokens::{Tokens, is_lustre_name, type_of_text};
 use std::alloc::Global;
 
-/// What each part of the reading needs: memory, and the last line of the text, where a fault at its end stands.
+/// What each part of the reading needs: memory, and the last line of the text, where an error at its end is.
 #[derive(Clone, Copy, Drop)]
 pub(crate) struct Reader {
     pub(crate) alloc: Global,
     pub(crate) last: u32,
 }
 
-/// Something that was read, with the tokens after it, or the first fault.
+/// Something that was read, with the tokens after it, or the first error.
 pub(crate) type Read<'a, T> = Result<(T, Tokens<'a>), CFault>;
 
-/// Something that was read, with the tokens after it, or why it isn't: the first fault, or that memory ran out.
+/// Something that was read, with the tokens after it, or why it isn't: the first error, or that memory ran out.
 pub(crate) type Parse<'a, T> = Result<(T, Tokens<'a>), ReadLusFault>;
 
 impl Reader {

@@ -157,7 +157,7 @@ arrow-token rest = record { first = 45; later = 62 ∷ []; list = refl; piece = 
 module _ {A B : Type 0} {mark : ℕ} (is_sign : LoneSign mark) (text : A → List ℕ) (spelling : B → Spelling) (written : A → B)
     (Fine : A → Type 0) (l : ℕ)
     (one : (x : A) → Fine x → (rest : List ℕ) → Ends rest → Reads (spelling (written x)) l (text x ++ rest) l rest) where
-  -- what stands after the first thing
+  -- what is after the first thing
   abbrev pub later_text : List A → List ℕ
   later_text xs = flat_map (λ u. (mark ∷ 32 ∷ []) ++ u) (map text xs)
 

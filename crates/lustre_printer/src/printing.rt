@@ -14,7 +14,7 @@ use lustre_syntax::{LusFile, LusNode};
 use std::alloc::{AllocError, Global};
 
 /// The text of a lawful file: a line for each declared name and for each equation.
-/// It has one reading: the file, but for the lines, which are those of the text.
+/// It has one reading: the file, except for the lines, which are those of the text.
 #[tactic(auto, using(crate::proofs::PrintedReading::text_printed))]
 pub fn print_lustre(alloc: Global, f: &LusFile) -> Result<Vec<u8>, Memory>
     requires { IsLawful (file_tree f.now) }

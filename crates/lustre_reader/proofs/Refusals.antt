@@ -1,4 +1,4 @@
--- The faults of texts that are refused.
+-- The errors of texts that are refused.
 use Rattle.std.proofs.Common.{◌≡◌, sym, subst, ℕ, List, Ok, Err, Result}
 use Rattle.std.specs.Result.{IfErr, IsErrAnd}
 use Rattle.c_grammar.specs.declared.fault.ReadCFault.{ReadCFault}
@@ -10,7 +10,7 @@ use Rattle.lustre_rules.specs.Resolve.{resolve_file}
 use Rattle.lustre_reading_laws.proofs.lemmas.Readings.{text-refused, rule-broken}
 use Rattle.lustre_reader.specs.Reading.{IsReadFault}
 
--- a fault of the grammar, and of a rule
+-- an error of the grammar, and of a rule
 pub grammar-refused : (bytes : List ℕ) (e : ReadCFault) → Fails e (parse_text bytes) → IsReadFault bytes e
 grammar-refused bytes (Refused fault) h = text-refused bytes fault h
 grammar-refused bytes Memory h = tt

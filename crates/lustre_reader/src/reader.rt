@@ -15,7 +15,7 @@ use std::alloc::Global;
 ///
 /// # Errors
 ///
-/// `Refused` exactly where the text has no reading, with its first fault: `Syntax` or `Deep` at the first token with which no
+/// `Refused` exactly where the text has no reading, with its first error: `Syntax` or `Deep` at the first token with which no
 /// file goes on or that opens an expression more than 100 deep, else `Name` or `TypeRule` at the first construct that breaks a
 /// static rule. `Memory` where memory ran out.
 pub fn read_lustre(alloc: Global, bytes: &[u8]) -> Result<LusChecked, ReadLusFault>

@@ -1,4 +1,4 @@
--- Declared names that pass are different, and each stands at its own place.
+-- Declared names that pass are different, and each is at its own place.
 use Rattle.std.proofs.Common.{◌≡◌, refl, ◌∙◌, ap, ℕ, zero, suc, ◌+◌, ◌<◌, List, [], ◌∷◌, length, map, get_or, Some, Ok, false, not, cond, bytes_eq, arith}
 use Rattle.std.specs.List.{AllByRecursion, position_from}
 use Rattle.std.proofs.lemmas.Bool.{not-true, or_parts, or_from}

@@ -1,4 +1,4 @@
--- How often places are given: each name that equations give has a place of the node, behind its inputs, and none twice.
+-- How often places are given: each name that equations give has a place of the node, after its inputs, and none twice.
 use Rattle.std.proofs.Common.{◌≡◌, ◌⊎◌, inl, inr, refl, sym, ◌∙◌, ap, subst, ℕ, ◌+◌, ◌<◌, ◌≤◌, List, [], ◌∷◌, ◌++◌, length, filter, Some, Ok, Bool, true, false, not, ◌||◌, cond, ◌==◌, nat_le, bytes_eq, arith, leb-true, eqb-true, eq-eqb, length-append, append_assoc, append-nil}
 use Rattle.std.specs.List.{AllByRecursion, position_from, list_any}
 use Rattle.std.proofs.lemmas.Bool.{not-true, and_parts, or_parts, or_cases}

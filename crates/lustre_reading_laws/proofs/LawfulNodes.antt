@@ -107,7 +107,7 @@ module _ (w : WrittenNode) (ks : List ℕ) (scope : Scope) (names : scope.names 
       let sum : times k (scope.given ++ ks) ≡ times k scope.given + times k ks = times-append k scope.given ks in
       omega arith
 
-  -- the text at a place behind the inputs has an equation
+  -- the text at a place after the inputs has an equation
   named-there : (k : ℕ) → length w.inputs ≤ k → k < length (declared_names w) →
       has_name (flat_map written_given w.equations) (get_or (texts_of (declared_names w)) k []) ≡ true
   named-there k low high =

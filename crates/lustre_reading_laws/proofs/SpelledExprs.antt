@@ -1,4 +1,4 @@
--- What the grammar spells is parsed, where it is within the limit, and has a fault where it isn't: expressions.
+-- What the grammar spells is parsed, where it is within the limit, and has an error where it isn't: expressions.
 use Rattle.std.proofs.Common.{◌≡◌, ◌⊎◌, inl, inr, refl, sym, ◌∙◌, ap, ℕ, pos, negsuc, zero, suc, ◌+◌, ◌<◌, ◌≤◌, ◌^◌, max, List, [], ◌∷◌, Bool, true, false, ◌&&◌, ◌||◌, not, ◌==◌, if◌then◌else◌, nat_le, nat_lt, Some, None, Ok, Err, codes, bytes_eq, decimal, arith, le-leb, leb-true}
 use Rattle.std.proofs.lemmas.Slice.Eq.{bytes_eq-Decides}
 use Rattle.std.specs.List.{list_all, list_any}

@@ -1,4 +1,4 @@
--- What the grammar spells is parsed, where it is within the limit, and has a fault where it isn't: words and lists.
+-- What the grammar spells is parsed, where it is within the limit, and has an error where it isn't: words and lists.
 use Rattle.std.proofs.Common.{◌≡◌, refl, sym, ◌∙◌, ap, subst, ℕ, zero, suc, ◌+◌, ◌<◌, ◌≤◌, List, [], ◌∷◌, drop, length, Bool, true, false, ◌&&◌, if◌then◌else◌, Option, Some, None, Ok, Err, arith}
 use Rattle.std.specs.List.{list_all}
 use Rattle.std.proofs.lemmas.Slice.Eq.{bytes_eq-Decides}
@@ -16,7 +16,7 @@ use Rattle.lustre_grammar.specs.Grammar.{name_word, read_word}
 use Rattle.lustre_grammar.specs.Parsing.{Form, lead_of, is_closed, parse_mark, list_step, parse_list, parse_name, word_at}
 use Rattle.lustre_grammar.proofs.lemmas.Forms.{mark_spelling, close_spelling, formed, mark-shrinks}
 
--- what is parsed of something: the thing and what is left where it is within the limit, and a fault where it isn't
+-- what is parsed of something: the thing and what is left where it is within the limit, and an error where it isn't
 pub record IsRead {X : Type 0} (within : Bool) (x : X) (rest : List Token) (parsed : Parsed X) : Type 0 where
   pub is : within ≡ true → parsed ≡ Ok (x, rest)
   pub isnt : within ≡ false → (fault : CFault) × (parsed ≡ Err fault)
@@ -31,7 +31,7 @@ module _ {X : Type 0} where
   pub surely : {x : X} {rest : List Token} {parsed : Parsed X} → parsed ≡ Ok (x, rest) → IsRead true x rest parsed
   surely e = record { is = λ h. e; isnt = λ h. cc }
 
-  -- the same limit, told otherwise
+  -- the same limit, said otherwise
   pub likewise : {b c : Bool} {x : X} {rest : List Token} {parsed : Parsed X} → b ≡ c → IsRead b x rest parsed → IsRead c x rest parsed
   likewise {b} {c} {x} {rest} {parsed} e h = subst (λ w. IsRead w x rest parsed) e h
 
@@ -149,7 +149,7 @@ module _ (last : ℕ) where
     abbrev Rest : (most count : ℕ) → List Token → Parsed (List X)
     Rest most count tokens = many (list_step last form element) most count tokens
 
-    -- what is made of an element, of what stands after it, and of the rest
+    -- what is made of an element, of what is after it, and of the rest
     abbrev behind_element : (most count : ℕ) → Parsed X → Parsed (List X)
     behind_element most count parsed =
         (parsed >>= λ a. parse_mark last form.after a.1 >>= λ after. Ok (one_more a.0 after.1)) >>= after_step (Rest most) count

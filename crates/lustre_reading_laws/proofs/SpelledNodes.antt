@@ -1,4 +1,4 @@
--- What the grammar spells is parsed, where it is within the limit, and has a fault where it isn't: equations, nodes, files.
+-- What the grammar spells is parsed, where it is within the limit, and has an error where it isn't: equations, nodes, files.
 use Rattle.std.proofs.Common.{◌≡◌, refl, sym, ◌∙◌, ap, subst, ℕ, zero, suc, List, [], ◌∷◌, true, false, option_and_then, Some, None, Ok, Err, codes, bytes_eq}
 use Rattle.std.specs.List.{list_all}
 use Rattle.std.proofs.lemmas.Slice.Eq.{bytes_eq-Decides}

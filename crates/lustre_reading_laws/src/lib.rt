@@ -1,4 +1,4 @@
-//! Laws of reading Lustre: each text has one reading or one first fault, and what is read is lawful.
+//! Laws of reading Lustre: each text has one reading or one first error, and what is read is lawful.
 #![tactic(auto)]
 
 mod laws;

@@ -4,7 +4,7 @@ use Rattle.base_core.specs.Results.{◌>>=◌}
 use Rattle.c_syntax.specs.declared.fault.CFault.{CFault}
 
 module _ {S A B : Type 0} (rule : S → A → Result B CFault) (next : S → B → S) where
-  -- what all of them stand for, or the first fault
+  -- what all of them stand for, or the first error
   abbrev pub walk : S → List A → Result (List B) CFault
   walk s [] = Ok []
   walk s (x ∷ xs) = rule s x >>= λ y. walk (next s y) xs >>= λ ys. Ok (y ∷ ys)

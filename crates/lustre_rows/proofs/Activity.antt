@@ -18,7 +18,7 @@ use Rattle.lustre_system.specs.Names.{around_active, around_off, active_name, re
 use Rattle.lustre_system.specs.SystemNodes.{active_value, reset_value, trigger_input, trigger_memory, has_trigger}
 use Rattle.lustre_rows.specs.NamesOfTick.{Has, ControlsHave, NamesHave, IsAfter}
 use Rattle.lustre_rows.specs.EquationLaws.{GivesItsName, ActivityEquationsHold}
-use Rattle.lustre_rows.proofs.ParamNames.{ports_by, names_by, enable-named, trigger-named, trigger-port-named, memory-named}
+use Rattle.lustre_rows.proofs.lemmas.ParamNames.{ports_by, names_by, enable-named, trigger-named, trigger-port-named, memory-named}
 use Rattle.lustre_rows.proofs.Tests.{ControlsRead, active-given, off-given, memory-given}
 
 -- a list of equations with one before it, where there is one

@@ -20,10 +20,7 @@ use Rattle.lustre_functions.proofs.lemmas.Given.{given-first}
 use Rattle.lustre_functions.proofs.lemmas.FromC.{arguments-are}
 use Rattle.lustre_rows.specs.NamesOfTick.{c_functions}
 use Rattle.lustre_rows.specs.EquationLaws.{GivesItsName, GiveTheirNames}
-
-pub all-after : {A : Type 0} (P : A → Type 0) (xs ys : List A) → AllByRecursion P xs → AllByRecursion P ys → AllByRecursion P (xs ++ ys)
-all-after P [] ys first second = second
-all-after P (x ∷ xs) ys first second = (first.0, all-after P xs ys first.1 second)
+use Rattle.lustre_rows.proofs.lemmas.Lists.{all-after}
 
 -- a call of one of the eight functions has the arguments that this takes
 abbrev pub IsCall : ℕ → ExprTrees → Type 0

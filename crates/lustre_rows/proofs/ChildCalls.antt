@@ -26,17 +26,7 @@ use Rattle.lustre_flows.specs.Values.{value_at, value_of, number_of, read, evalu
 use Rattle.lustre_system.specs.Names.{active_name, reset_name}
 use Rattle.lustre_system.specs.RowEquations.{wire_read}
 use Rattle.lustre_rows.specs.ChildLaws.{IsChild, ChildEquationsHold}
-use Rattle.lustre_rows.proofs.Calls.{all-after}
-
--- ---- Lists by their places
-
-all-by-place : {A : Type 0} (P : A → Type 0) (xs : List A) → ((k : ℕ) (x : A) → slice_get xs k ≡ Some x → P x) → AllByRecursion P xs
-all-by-place P [] each = tt
-all-by-place P (x ∷ xs) each = (each 0 x refl, all-by-place P xs (λ k y at. each (suc k) y at))
-
-pub all-map : {A : Type 0} (P Q : A → Type 0) → ((x : A) → P x → Q x) → (xs : List A) → AllByRecursion P xs → AllByRecursion Q xs
-all-map P Q f [] all = tt
-all-map P Q f (x ∷ xs) all = (f x all.0, all-map P Q f xs all.1)
+use Rattle.lustre_rows.proofs.lemmas.Lists.{all-after, all-by-place, all-map}
 
 -- ---- Which wires enter a child
 

@@ -1,4 +1,4 @@
-pub mod ParamNames
+pub mod lemmas
 pub mod Tests
 pub mod Activity
 pub mod Samples

@@ -31,7 +31,7 @@ use Rattle.lustre_functions.specs.FromCLaws.{TestHasNames}
 use Rattle.lustre_functions.proofs.lemmas.FromC.{test-is}
 use Rattle.lustre_rows.specs.NamesOfTick.{NamesHave, IsAfter}
 use Rattle.lustre_rows.specs.EquationLaws.{GiveTheirNames, IsNamedTick, IsTimedRow, MemoryEquationsHold}
-use Rattle.lustre_rows.proofs.ParamNames.{now-named}
+use Rattle.lustre_rows.proofs.lemmas.ParamNames.{now-named}
 use Rattle.lustre_rows.proofs.Tests.{name-given, and-given}
 use Rattle.lustre_rows.proofs.Samples.{signed-given, moved-last, moved-next, sample-is, item-is}
 

@@ -28,46 +28,12 @@ use Rattle.lustre_rows.specs.EquationLaws.{GivesItsName, IsNamedTick}
 use Rattle.lustre_rows.specs.ChildLaws.{CallsChild}
 use Rattle.lustre_rows.specs.RunLaws.{IsRunTick, IsRunRow}
 use Rattle.lustre_rows.specs.SystemLaws.{HoldsInTick, SystemEquationsHold}
+use Rattle.lustre_rows.proofs.lemmas.Lists.{all-after, all-map, all-joined, all-only, own-rows}
 use Rattle.lustre_rows.proofs.Activity.{activity_equations_hold}
 use Rattle.lustre_rows.proofs.Memories.{memory_equations_hold}
-use Rattle.lustre_rows.proofs.Calls.{all-after}
 use Rattle.lustre_rows.proofs.ValueEquations.{value_equations_hold}
-use Rattle.lustre_rows.proofs.ChildCalls.{all-map, child_equations_hold}
+use Rattle.lustre_rows.proofs.ChildCalls.{child_equations_hold}
 use Rattle.lustre_rows.proofs.RunRows.{within-root, rows_of_runs_are_timed, rows_of_runs_are_computed}
-
--- ---- Lists
-
-all-numbers : (n a m : ℕ) → a + n ≤ m → AllByRecursion (λ k. k < m) (range_with_len a n)
-all-numbers zero a m few = tt
-all-numbers (suc n) a m few = (omega (arith, few), all-numbers n (a + 1) m (omega (arith, few)))
-
-kept-or-not : (Q : ℕ → Type 0) (b : Bool) (x : ℕ) (xs : List ℕ) → (b ≡ true → Q x) → AllByRecursion Q xs →
-    AllByRecursion Q (if b then x ∷ xs else xs)
-kept-or-not Q true x xs here rest = (here refl, rest)
-kept-or-not Q false x xs here rest = rest
-
-all-filtered : (P Q : ℕ → Type 0) (test : ℕ → Bool) → ((k : ℕ) → P k → test k ≡ true → Q k) → (xs : List ℕ) → AllByRecursion P xs →
-    AllByRecursion Q (filter test xs)
-all-filtered P Q test keep [] all = tt
-all-filtered P Q test keep (x ∷ xs) all =
-    kept-or-not Q (test x) x (filter test xs) (keep x all.0) (all-filtered P Q test keep xs all.1)
-
-all-joined : (Q : NamedEquation → Type 0) (f : ℕ → List NamedEquation) (xs : List ℕ) → AllByRecursion (λ b. AllByRecursion Q (f b)) xs →
-    AllByRecursion Q (flat_map f xs)
-all-joined Q f [] all = tt
-all-joined Q f (x ∷ xs) all = all-after Q (f x) (flat_map f xs) all.0 (all-joined Q f xs all.1)
-
-all-only : (Q : NamedEquation → Type 0) (b : Bool) (xs : List NamedEquation) → (b ≡ true → AllByRecursion Q xs) →
-    AllByRecursion Q (only_if b xs)
-all-only Q true xs all = all refl
-all-only Q false xs all = tt
-
--- the rows of a system
-own-rows : (rows : List Row) (n : Option ℕ) → AllByRecursion (IsRowOf rows n) (rows_of rows n)
-own-rows rows n =
-    all-filtered (λ k. k < length rows) (IsRowOf rows n) (λ b. same_system (row_at rows b).owner n)
-    (λ k below own. record { in_table = below; own = same_system-equal (row_at rows k).owner n own }) (row_numbers rows)
-    (all-numbers (length rows) 0 (length rows) (omega arith))
 
 -- ---- The laws that it takes
 

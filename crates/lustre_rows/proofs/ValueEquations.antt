@@ -22,7 +22,8 @@ use Rattle.lustre_system.specs.RowEquations.{row_code, row_value}
 use Rattle.lustre_functions.specs.FunctionLaws.{NodesGiveTheSame}
 use Rattle.lustre_rows.specs.NamesOfTick.{tick_reads}
 use Rattle.lustre_rows.specs.EquationLaws.{GivesItsName, ValueEquationsHold}
-use Rattle.lustre_rows.proofs.Calls.{CallsGive, all-after, calls-given}
+use Rattle.lustre_rows.proofs.lemmas.Lists.{all-after}
+use Rattle.lustre_rows.proofs.Calls.{CallsGive, calls-given}
 use Rattle.lustre_rows.proofs.RowCalls.{row-calls-give}
 use Rattle.lustre_rows.proofs.Values.{own-leaves, code_end, code-comes, names-given, value-given}
 

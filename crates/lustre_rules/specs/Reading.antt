@@ -1,4 +1,4 @@
--- The file of a text, and the first fault of a text that has none.
+-- The file of a text, and the first error of a text that has none.
 use Rattle.std.specs.Prelude.{◌≡◌, ℕ, ◌≤◌, List, Option, Some, None, Ok, Err}
 use Rattle.std.specs.List.{AllByRecursion}
 use Rattle.c_syntax.specs.declared.fault.CFault.{CFault}
@@ -24,14 +24,14 @@ pub record LustreText (bytes : List ℕ) (f : FileTree) : Type 0 where
   pub resolved : resolve_file written ≡ Ok f
   pub limit : IsWithinLimit f
 
--- where no token has a fault, the first construct of the written file that breaks a static rule
+-- where no token has an error, the first construct of the written file that breaks a static rule
 abbrev pub IsRuleFault : Option CFault → List ℕ → CFault → Type 0
 IsRuleFault (Some first) bytes fault = fault ≡ first
 IsRuleFault None bytes fault =
     (written : WrittenFile) × Spells (tokens_of bytes) written
     × (resolve_file written ≡ Err fault)
 
--- the bytes are no text of a file, and this is their first fault
+-- the bytes are no text of a file, and this is their first error
 abbrev pub LustreFaultOf : List ℕ → CFault → Type 0
 LustreFaultOf bytes fault =
     IsRuleFault (token_fault file_needs (last_line bytes) (tokens_of bytes)) bytes fault

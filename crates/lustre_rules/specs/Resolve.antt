@@ -207,7 +207,7 @@ resolve_nodes earlier (n ∷ ns) = do
   x ← resolve_node earlier (is_end ns) n
   resolve_nodes (earlier ++ x ∷ []) ns
 
--- the file that a written file stands for, or its first fault
+-- the file that a written file stands for, or its first error
 abbrev pub resolve_file : WrittenFile → Result FileTree CFault
 resolve_file f = do
   nodes ← resolve_nodes [] f.nodes

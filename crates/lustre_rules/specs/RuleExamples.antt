@@ -126,7 +126,7 @@ y1_is_u1 = WrittenEquation.set 8 (codes "y1") (at 8 (codes "u1"))
 abbrev pub resolved : List WrittenNode → Result FileTree CFault
 resolved nodes = resolve_file (record { nodes = nodes })
 
--- the first fault of f and a root with a bool x, whose first equation is this
+-- the first error of f and a root with a bool x, whose first equation is this
 abbrev pub with_x : WrittenEquation → Result FileTree CFault
 with_x e = resolved (node_f ∷ root_with (declared 6 (codes "x") bool ∷ []) (e ∷ y1_is_u1 ∷ []) ∷ [])
 
@@ -195,7 +195,7 @@ pub type_before_reads : with_x (WrittenEquation.set 7 (codes "x")
     (two Add (at 8 (codes "z")) (number_of 1))) ≡ Err (fault_at 7 TypeRule)
 type_before_reads = refl
 
--- where only the unknown name could tell, it is no fault of types
+-- where only the unknown name could say, it is no error of types
 pub name_alone : with_x (WrittenEquation.set 7 (codes "x")
     (two Eq (at 8 (codes "z")) (number_of 1))) ≡ Err (fault_at 8 Name)
 name_alone = refl
@@ -213,7 +213,7 @@ pub given_unknown : resolved (root_with [] (y1_is_u1 ∷ WrittenEquation.set 9 (
     ∷ []) ∷ []) ≡ Err (fault_at 9 Name)
 given_unknown = refl
 
--- an output or a further name without an equation: at the node, before all that stands in it
+-- an output or a further name without an equation: at the node, before all that is in it
 pub missing_equation : resolved (root_with (declared 6 (codes "x") int ∷ declared 6 (codes "x") int
     ∷ []) (y1_is_u1 ∷ []) ∷ []) ≡ Err (fault_at 5 Name)
 missing_equation = refl

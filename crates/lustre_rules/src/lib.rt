@@ -1,2 +1,2 @@
-//! The static rules of Lustre: the file that a written one stands for, and the first fault of a text that has no reading.
+//! The static rules of Lustre: the file that a written one stands for, and the first error of a text that has no reading.
 #![tactic(auto)]

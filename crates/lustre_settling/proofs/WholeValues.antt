@@ -1,4 +1,4 @@
--- Values that are all there: what is told of equations over them, and what follows where nothing is told.
+-- Values that are all there: what is reported of equations over them, and what follows where nothing is reported.
 use Rattle.std.specs.Prelude.{◌≡◌, ⊤, ℕ, zero, suc, ◌<◌, ℤ, pos, ◌+ℤ◌, ◌-ℤ◌, ◌*ℤ◌, neg_ℤ, int_div, int_rem, not, Bool, true, false, if◌then◌else◌, List, [], ◌∷◌, ◌++◌, map, take, length, Option, Some, None, refl}
 use Rattle.std.specs.Ordering.{int_eq}
 use Rattle.std.specs.List.{AllByRecursion, flat_map, list_all}
@@ -16,7 +16,7 @@ use Rattle.lustre_flows.specs.Ticks.{stuck_at, failure, waiting, least_place, pl
 use Rattle.lustre_flows.specs.FlowLaws.{below}
 use Rattle.lustre_settling.proofs.lemmas.Given.{times, times-other, times-append}
 
--- ---- What is told
+-- ---- What is reported
 
 pub none-of-both : {A : Type 0} (xs ys : List A) → xs ++ ys ≡ [] → (xs ≡ []) × (ys ≡ [])
 none-of-both [] ys none = (refl, none)

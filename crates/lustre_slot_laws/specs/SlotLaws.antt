@@ -24,13 +24,13 @@ SlotsSolve =
     HoldsAtTick f (laid_before f before) row (laid now (fresh_root f))
     ↔ ((take (last_node f).inputs now ≡ map Some row) × AllKeep f before now)
 
--- what is told of one instance
+-- what is reported of one instance
 abbrev pub told_in : (told : Option (List (Option ℤ)) → List (Option ℤ) → EquationTree → List LusStuck) → FileTree →
     Option (List (Option ℤ)) → List (Option ℤ) → Placed → List LusStuck
 told_in told f before now p =
     flat_map (told (option_map (names_of f p) before) (names_of f p now)) (node_at f.nodes p.node).equations
 
--- of all instances, it is what is told of each, in the order in which they are laid out
+-- of all instances, it is what is reported of each, in the order in which they are laid out
 abbrev pub SlotsTell : Type 0
 SlotsTell =
     (told : Option (List (Option ℤ)) → List (Option ℤ) → EquationTree → List LusStuck) (f : FileTree)

@@ -6,7 +6,7 @@ pub fn slots_solve()
     ensures { SlotsSolve }
 {}
 
-/// What is told of all instances is what is told of each, in the order in which they are laid out.
+/// What is said of all instances is what is said of each, in the order in which they are laid out.
 #[tactic(auto, using(crate::proofs::lemmas::Told::slots_tell))]
 pub fn slots_tell()
     ensures { SlotsTell }

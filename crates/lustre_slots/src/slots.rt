@@ -13,7 +13,7 @@ use base_core::Memory;
 use lustre_syntax::LusFile;
 use std::alloc::Global;
 
-/// The slots of a file. Those of an instance stand before those of its calls.
+/// The slots of a file. Those of an instance are before those of its calls.
 #[derive(Drop)]
 pub struct Slots {
     /// The instances, in the order of their paths.

@@ -54,7 +54,7 @@ pub enum LusExpr {
     Pre(u32),
 }
 
-/// An equation, with the line where it stands.
+/// An equation, with the line where it is.
 #[derive(Drop)]
 pub enum LusEq {
     /// A name has the value of an expression.

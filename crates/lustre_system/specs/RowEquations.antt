@@ -127,7 +127,7 @@ module _ (d : Diagram) (s : Option ℕ) where
       ++ only_if (has_value (row_at d.rows b).kind) (value_equations b)
       ++ only_if (is_subsystem (row_at d.rows b).kind) (child_equations b)
 
-  -- the names that these give, but for the value of an Outport, which is an output of the node
+  -- the names that these give, except for the value of an Outport, which is an output of the node
   abbrev pub row_names : ℕ → List Declared
   row_names b =
       only_if (is_delay (op_at d b)) (bool_name (takes_name b) ∷ map int_name (samples b))

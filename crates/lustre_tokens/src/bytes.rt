@@ -1,12 +1,10 @@
 // What the bytes of a text begin.
 ghost use Rattle.std.specs.Prelude.{◌≡◌};
-ghost use Rattle.std.specs.List.{prefix_len};
-ghost use Rattle.std.specs.Char.{is_ascii_digit};
-ghost use Rattle.base_core.specs.Numbers.{reported_number};
-ghost use Rattle.c_syntax.specs.Names as names;
-ghost use Rattle.c_grammar.specs.Tokens.{is_white_space, sign_class, class_of, line_after};
+ghost use Rattle.c_grammar.specs.Tokens.{sign_class, class_of};
 ghost use Rattle.lustre_grammar.specs.Tokens as tokens;
 ghost use Rattle.lustre_tokens.specs.Pieces.{IsPiece};
+
+use c_tokens::{digits_len, is_white_space, is_word_start, word_len};
 
 /// What a byte begins: a blank, or a token by its length.
 #[derive(Clone, Copy, Drop)]
@@ -15,53 +13,11 @@ pub(crate) enum Piece {
     Token(usize),
 }
 
-/// The line after a byte that stands on a line.
-pub(crate) fn next_line(line: u32, byte: u8) -> u32
-    ensures { result ≡ reported_number (line_after byte line) }
-{
-    if byte == b'\n' {
-        line.saturating_add(1)
-    } else {
-        line
-    }
-}
-
-fn is_blank(byte: u8) -> bool
-    ensures { result ≡ is_white_space byte }
-{
-    matches!(byte, b' ' | b'\t' | b'\n' | b'\r')
-}
-
-fn is_word_start(byte: u8) -> bool
-    ensures { result ≡ names.is_word_start byte }
-{
-    byte.is_ascii_alphabetic() || byte == b'_'
-}
-
-fn is_word_byte(byte: u8) -> bool
-    ensures { result ≡ names.is_word_byte byte }
-{
-    is_word_start(byte) || byte.is_ascii_digit()
-}
-
 // Whether two bytes are one token.
 fn is_double_sign(first: u8, second: u8) -> bool
     ensures { result ≡ tokens.is_double_sign first second }
 {
     matches!((first, second), (b'-' | b'<', b'>') | (b'<' | b'>', b'='))
-}
-
-// How many letters, digits and `_` bytes begin with.
-fn word_len(bytes: &[u8]) -> usize
-    ensures { result ≡ prefix_len names.is_word_byte bytes.now }
-{
-    bytes.iter().take_while(|b| is_word_byte(**b)).count()
-}
-
-fn digits_len(bytes: &[u8]) -> usize
-    ensures { result ≡ prefix_len is_ascii_digit bytes.now }
-{
-    bytes.iter().take_while(|b| b.is_ascii_digit()).count()
 }
 
 fn sign_piece(first: u8, rest: &[u8]) -> Piece
@@ -82,7 +38,7 @@ fn sign_piece(first: u8, rest: &[u8]) -> Piece
 pub(crate) fn first_piece(first: u8, rest: &[u8]) -> Piece
     ensures { IsPiece result first rest.now }
 {
-    if is_blank(first) {
+    if is_white_space(first) {
         Piece::Blank
     } else if is_word_start(first) {
         Piece::Token(1 + word_len(rest))

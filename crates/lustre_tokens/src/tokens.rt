@@ -3,8 +3,8 @@ ghost use Rattle.std.specs.Prelude.{◌≡◌, ◌∷◌, [], drop, None, Some, 
 ghost use Rattle.lustre_grammar.specs.Tokens.{tokens_from};
 ghost use Rattle.lustre_grammar.specs.Parsing.{is_closed};
 
-use crate::bytes::{Piece, first_piece, next_line};
-use c_tokens::{Token, is};
+use crate::bytes::{Piece, first_piece};
+use c_tokens::{Token, is, line_past};
 use std::marker::Model;
 
 /// The tokens of a text, or of what is left of one, which begins on a line.
@@ -25,7 +25,7 @@ impl<'a> Model for Tokens<'a> {
 }
 
 impl<'a> Tokens<'a> {
-    /// The tokens of these bytes, the first of which stands on this line.
+    /// The tokens of these bytes, the first of which is on this line.
     pub fn new(bytes: &'a [u8], line: u32) -> Tokens<'a>
         ensures { result ≡ tokens_from 0 line bytes.now }
     {
@@ -42,7 +42,7 @@ impl<'a> Tokens<'a> {
         while let Some((first, after)) = bytes.split_first() {
             match first_piece(*first, after) {
                 Piece::Blank => {
-                    line = next_line(line, *first);
+                    line = line_past(line, *first);
                     bytes = after;
                 }
                 Piece::Token(len) => {

@@ -1,4 +1,4 @@
--- Of a block's parameters the first that is out of form is told.
+-- Of a block's parameters the first that is out of form is reported.
 use Rattle.std.proofs.Common.{◌≡◌, refl, sym, ◌∙◌, ap, ℕ, Bool, true, false, not, cond, List, Option, None, Some, is_some, map, codes}
 use Rattle.std.specs.Prelude.{Result, Ok, Err, ok_or, option_map, option_and_then, find, bytes_eq}
 use Rattle.std.specs.Result.{result_ok, result_err}
@@ -25,12 +25,12 @@ use Rattle.mdl_blocks.specs.Meanings.{type_in, whole_type_in, any_time_in, time_
 use Rattle.mdl_blocks.specs.Blocks.{Texts, texts_by, required, named, unless_fault, checked, is_single, keeps_value, body_of, BodyText, BlockText, unless_hollow}
 use Rattle.mdl_blocks.specs.FirstFaults.{passes, is_inputs_form, has_form, first_bad, TellsFirstParameter}
 
--- a result is there where a test passes, and else is the fault of a parameter
+-- a result is there where a test passes, and else is the error of a parameter
 abbrev Tells : {A : Type 0} → Result A Fault → Bool → ParamName → Type 0
 Tells (Ok value) ok parameter = ok ≡ true
 Tells (Err fault) ok parameter = (ok ≡ false) × (fault ≡ Parameter parameter)
 
--- a text, or the fault of its own parameter
+-- a text, or the error of its own parameter
 abbrev IsOwn : Result (List ℕ) Fault → ParamName → Type 0
 IsOwn (Ok text) parameter = Unit {0}
 IsOwn (Err fault) parameter = fault ≡ Parameter parameter
@@ -176,7 +176,7 @@ module _ (peers : Peers) (texts : Texts) (own : (name : ParamName) → IsOwn (te
       by (Ok text) own = refl
       by (Err fault) own = (refl, own)
 
-  -- a block tells what is wrong with its body
+  -- a block says what is wrong with its body
   kept : (r : Result BodyText Fault) (block : BodyText → BlockText) → result_err (r >>= λ body. Ok (block body)) ≡ result_err r
   kept (Ok body) block = refl
   kept (Err fault) block = refl

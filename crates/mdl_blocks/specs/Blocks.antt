@@ -86,7 +86,7 @@ typed kind type time = record { kind = kind; type_text = type; time_text = time 
 
 -- ---- Parameters
 
--- The text that stands for each parameter of a block, or the fault of one for which none does.
+-- The text that stands for each parameter of a block, or the error of one for which none does.
 abbrev pub Texts : Type 0
 Texts = ParamName → Result (List ℕ) Fault
 
@@ -95,28 +95,28 @@ abbrev pub texts_by : DefaultTexts → Items → (type_name : List ℕ) → Text
 texts_by defaults items type_name name =
     ok_or (parameter_text defaults items type_name name) (Parameter name)
 
--- what a parameter's text means, or the fault of that parameter
+-- what a parameter's text means, or the error of that parameter
 abbrev pub required : {A : Type 0} → (List ℕ → Option A) → Texts → ParamName → Result A Fault
 required meaning texts name = do
   text ← texts name
   ok_or (meaning text) (Parameter name)
 
--- what a parameter's word means, or the fault of that parameter
+-- what a parameter's word means, or the error of that parameter
 abbrev pub named : {A : Type 0} → List (List ℕ × A) → Texts → ParamName → Result A Fault
 named words texts name = required (λ text. beside text words) texts name
 
--- nothing where a test passes, else the fault of this parameter
+-- nothing where a test passes, else the error of this parameter
 abbrev pub unless_fault : Bool → ParamName → Result (Unit {0}) Fault
 unless_fault true parameter = Ok tt
 unless_fault false parameter = Err (Parameter parameter)
 
--- the fault of a parameter whose text doesn't pass a test
+-- the error of a parameter whose text doesn't pass a test
 abbrev pub checked : (List ℕ → Bool) → Texts → ParamName → Result (Unit {0}) Fault
 checked test texts name = do
   text ← texts name
   unless_fault (test text) name
 
--- the fault of a parameter whose text isn't this word
+-- the error of a parameter whose text isn't this word
 abbrev pub only : List ℕ → Texts → ParamName → Result (Unit {0}) Fault
 only word texts name = checked (bytes_eq word) texts name
 

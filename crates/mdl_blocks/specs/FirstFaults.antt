@@ -99,8 +99,8 @@ abbrev pub first_bad : Peers → Texts → BlockType → Option ParamName
 first_bad peers texts type =
     find (λ name. not (has_form peers texts type name)) (checked_parameters type)
 
--- of a block of a type that is read the first parameter out of form is told, and there is no other
--- fault
+-- of a block of a type that is read the first parameter out of form is reported, and there is no other
+-- error
 abbrev pub TellsFirstParameter : Type 0
 TellsFirstParameter =
     (defaults : DefaultTexts) (peers : Peers) (section : SectionTree) (type_name : List ℕ)

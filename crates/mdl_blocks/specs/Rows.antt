@@ -25,12 +25,12 @@ use Rattle.mdl_blocks.specs.declared.block.Body.{Body}
 use Rattle.mdl_blocks.specs.declared.row.RowText.{RowText}
 use Rattle.base_core.specs.Results.{◌>>=◌}
 
--- the time that is written, or the fault of a period 0
+-- the time that is written, or the error of a period 0
 abbrev pub known_time : WrittenTime → Result TimeText Fault
 known_time (a_time.Known text) = Ok text
 known_time a_time.Zero = Err Continuous
 
--- the type that is written, or the fault of a floating-point type
+-- the type that is written, or the error of a floating-point type
 abbrev pub known_type : WrittenType → Result TypeText Fault
 known_type (a_type.Known text) = Ok text
 known_type a_type.Float = Err FloatType

@@ -5,7 +5,7 @@ ghost use Rattle.mdl_blocks.specs.Faults.{refusal_at};
 use base_core::ParamName;
 use base_refusals::Refusal;
 
-/// What is wrong with a block. Of several faults the first in this order is told, and of several parameters out of form the
+/// What is wrong with a block. Of several errors the first in this order is reported, and of several parameters out of form the
 /// first in the order of its type's parameters, where its name comes first.
 #[derive(Clone, Copy, Debug, PartialEq, Eq, Drop)]
 pub enum Fault {
@@ -20,7 +20,7 @@ pub enum Fault {
 }
 
 impl Fault {
-    /// The refusal of a file for this fault of the block whose section is opened at this line.
+    /// The refusal of a file for this error of the block whose section is opened at this line.
     pub fn refusal_at(self, line: u32) -> Refusal
         ensures { plain_refusal result ≡ refusal_at line self }
     {

@@ -27,7 +27,7 @@ use base_core::{Compare, Decimal, Edge, ParamName};
 use base_fixed_point::{Over, Round};
 use diagram_blocks::{Criterion, How, Logic};
 
-/// The fault of this parameter, unless a test passed.
+/// The error of this parameter, unless a test passed.
 fn unless_fault(passes: bool, name: ParamName) -> Result<(), Fault>
     ensures { result ≡ unless_fault passes name }
 {
@@ -38,7 +38,7 @@ fn unless_fault(passes: bool, name: ParamName) -> Result<(), Fault>
     }
 }
 
-// Each method looks up one parameter and reads its text, once. It fails with the fault of that parameter exactly where
+// Each method looks up one parameter and reads its text, once. It fails with the error of that parameter exactly where
 // its text is not of the form.
 impl<'a> BlockTexts<'a> {
     /// The port of an Inport or Outport, of which the system has so many.

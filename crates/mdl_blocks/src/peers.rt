@@ -17,7 +17,7 @@ pub struct Peers {
 }
 
 impl Peers {
-    /// Those of a System. A count that doesn't fit 32 bits is told as the greatest number that does.
+    /// Those of a System. A count that doesn't fit 32 bits is reported as the greatest number that does.
     pub fn of(system: &Section) -> Peers
         ensures { result ≡ peers_in (section_tree system.now).items }
     {
@@ -28,7 +28,7 @@ impl Peers {
     }
 }
 
-/// A count as it is told.
+/// A count as it is reported.
 fn reported(count: usize) -> u32
     ensures { result ≡ reported_number count }
 {

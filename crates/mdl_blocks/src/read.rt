@@ -56,7 +56,7 @@ fn read_typed<'a>(
 ///
 /// Fails with `Unsupported` exactly where the BlockType is none that is read, or a subsystem has no System, and else with
 /// `Parameter` exactly where the block has no name or the text of some parameter is not of its form, with the first such
-/// parameter. A period 0 and a floating-point type are read, as faults of the row: see `Body::row`.
+/// parameter. A period 0 and a floating-point type are read, as errors of the row: see `Body::row`.
 pub fn read_block<'a>(
     defaults: &'a Defaults,
     peers: Peers,

@@ -23,7 +23,7 @@ pub struct RowText {
 }
 
 impl WrittenTime {
-    /// The time, or the fault of a period 0.
+    /// The time, or the error of a period 0.
     fn known(self) -> Result<TimeText, Fault>
         ensures { result ≡ rows.known_time self }
     {
@@ -56,7 +56,7 @@ impl SignMask {
 }
 
 impl WrittenType {
-    /// The type, or the fault of a floating-point type.
+    /// The type, or the error of a floating-point type.
     fn known(self) -> Result<TypeText, Fault>
         ensures { result ≡ rows.known_type self }
     {

@@ -37,7 +37,7 @@ block_type_name TriggerPort = codes "TriggerPort"
 abbrev pub block_type_of : List ℕ → Option BlockType
 block_type_of name = find (λ type. bytes_eq (block_type_name type) name) block_types
 
--- what stands beside the first name that is this one
+-- what is beside the first name that is this one
 abbrev pub beside : {A : Type 0} → List ℕ → List (List ℕ × A) → Option A
 beside wanted [] = None
 beside wanted (pair ∷ rest) = if bytes_eq wanted pair.0 then Some pair.1 else beside wanted rest

@@ -10,7 +10,7 @@ use Rattle.mdl_params.specs.declared.block_type.BlockType.{BlockType}
 use Rattle.mdl_params.specs.declared.block_type.BlockType.TheVariants.{Inport, Outport, SubSystem, Constant, Ground, Terminator, Gain, Sum, Product, UnitDelay, Delay, ZeroOrderHold, Switch, RelationalOperator, Logic, DataTypeConversion, RateTransition, EnablePort, TriggerPort}
 use Rattle.mdl_params.specs.BlockTypes.{block_type_of}
 
--- the parameters of a block that computes in fixed point, behind its own
+-- the parameters of a block that computes in fixed point, after its own
 abbrev pub arithmetic : List (ParamName × List ℕ)
 arithmetic = (RndMeth, codes "Floor") ∷ (SaturateOnIntegerOverflow, codes "off")
     ∷ (SampleTime, codes "-1") ∷ []

@@ -48,7 +48,7 @@ time_by_numbers (Err fault) offset = Err Parameter
 time_by_numbers (Ok period) (Err fault) = Err Parameter
 time_by_numbers (Ok period) (Ok offset) = time_by_values period offset
 
--- whether a byte can stand between two numbers: a blank or a comma
+-- whether a byte can be between two numbers: a blank or a comma
 abbrev pub is_separator : ℕ → Bool
 is_separator c = is_blank c || c == 44
 
@@ -57,7 +57,7 @@ abbrev pub without_space : List ℕ → List ℕ
 without_space [] = []
 without_space (c ∷ rest) = if c == 32 then rest else c ∷ rest
 
--- what stands behind a separator at the front, where that is a space, `,` or `, `
+-- what is after a separator at the front, where that is a space, `,` or `, `
 abbrev pub behind_separator : List ℕ → Option (List ℕ)
 behind_separator [] = None
 behind_separator (c ∷ rest) =
@@ -81,7 +81,7 @@ between_brackets (c ∷ rest) =
     if c == 91 && slice_index rest (length rest - 1) == 93 then Some (take (length rest - 1) rest)
     else None
 
--- a text in which a separator stands
+-- a text with a separator in it
 abbrev pub if_separated : Option (List ℕ) → Option (List ℕ)
 if_separated None = None
 if_separated (Some text) = if list_any is_separator text then Some text else None
@@ -116,6 +116,6 @@ trimmed_time text =
 abbrev pub time_form : List ℕ → Result TimeMeaning ParamFault
 time_form text = trimmed_time (trim text)
 
--- a reading of a sample time gives this meaning, or this fault
+-- a reading of a sample time gives this meaning, or this error
 abbrev pub ReadsTimeAs : Result TimeText ParamFault → Result TimeMeaning ParamFault → Type 0
 ReadsTimeAs result meaning = result_map_both time_of (λ fault. fault) result ≡ meaning

@@ -15,7 +15,7 @@ use mdl_tree::{Item, Section};
 use std::alloc::Global;
 use std::marker::Model;
 
-/// The second name of an initial condition, but for that of a Delay.
+/// The second name of an initial condition, except for that of a Delay.
 const SECOND_NAME: &[u8] = b"X0";
 
 /// The parameters of each type of block.

@@ -49,7 +49,7 @@ fn is_constant(text: &[u8]) -> bool
     text == b"inf".as_slice() || text == b"Inf".as_slice() || text == b"[inf 0]".as_slice()
 }
 
-/// Whether a byte can stand between two numbers.
+/// Whether a byte can be between two numbers.
 fn is_separator(byte: u8) -> bool
     ensures { result ≡ is_separator byte }
 {
@@ -83,7 +83,7 @@ fn has_separator(text: &[u8]) -> bool
     text.iter().any(|byte| is_separator(*byte))
 }
 
-/// How many bytes stand in front of the first separator.
+/// How many bytes are in front of the first separator.
 fn number_len(text: &[u8]) -> usize
     ensures value { result ≡ prefix_len (λ c. not (is_separator c)) text.now }
     ensures within { result ≤ length text.now }
@@ -91,7 +91,7 @@ fn number_len(text: &[u8]) -> usize
     text.iter().take_while(|byte| !is_separator(**byte)).count()
 }
 
-/// What stands behind a separator at the front.
+/// What is after a separator at the front.
 fn behind_separator(text: &[u8]) -> Option<&[u8]>
     ensures { option_copied result ≡ behind_separator text.now }
 {

@@ -16,7 +16,7 @@ abbrev if_some : List ℕ → List (List ℕ)
 if_some [] = []
 if_some (b ∷ bs) = (b ∷ bs) ∷ []
 
--- the parts between line feeds, each but the last with the line feed behind it
+-- the parts between line feeds, each but the last with the line feed after it
 abbrev ended : List (List ℕ) → List (List ℕ)
 ended [] = []
 ended (x ∷ []) = if_some x

@@ -48,7 +48,7 @@ outcome-line last number line old new text trimmed texts rest reported cut first
     ∙ ap (λ f. outcome last old (f.1 ++ statements_from f.0 (number + 1) rest)) (line_found within line number text trimmed reported cut)
     ∙ ap (λ ts. outcome last old (statements_from within number ts)) (sym first)
 
--- a line that isn't read has the first fault
+-- a line that isn't read has the first error
 pub fault_at_line : (OfValue : Unit {0} → Type 0) (bytes : List ℕ) (number line : ℕ) (old : Builder)
     (text trimmed : List ℕ) (texts rest : List (List ℕ)) (fault : ReadFault) →
     line ≡ reported_number number → trimmed ≡ trim text → texts ≡ text ∷ rest →
@@ -65,7 +65,7 @@ fault_at_line OfValue bytes number line old text trimmed texts rest (Syntax told
     ∙ fails last (statements_from (after_line within line trimmed).0 (number + 1) rest))
 fault_at_line OfValue bytes number line old text trimmed texts rest Memory reported cut first read fails = tt
 
--- behind the last line
+-- after the last line
 pub tree_at_end : (bytes : List ℕ) (line number : ℕ) (builder : Builder) (texts : List (List ℕ)) (result : Result Section ReadFault) →
     line ≡ reported_number (length (lines bytes)) → texts ≡ [] →
     outcome (reported_number (length (lines bytes))) builder (statements_from (within_begun builder.begun) number texts)

@@ -1,4 +1,4 @@
--- Items in memory, with one more behind them.
+-- Items in memory, with one more after them.
 use Rattle.std.proofs.Common.{◌≡◌, refl, ◌∙◌, ap, List, [], ◌∷◌, ◌++◌}
 use Rattle.mdl_tree.specs.declared.tree.Item.{Item, Param, Section'}
 use Rattle.mdl_tree.specs.Spelling.{Items, End, append_items}

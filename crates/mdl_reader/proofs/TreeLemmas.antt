@@ -1,4 +1,4 @@
--- What sections in the making come to is the tree of the text, or its first fault.
+-- What sections in the making come to is the tree of the text, or its first error.
 use Rattle.std.proofs.Common.{◌≡◌, refl, sym, ◌∙◌, ap, subst, ℕ, Bool, true, false, cond, List, [], ◌∷◌, length, Option, None, Some, Result, Ok, Err, ◌==◌}
 use Rattle.base_refusals.specs.declared.refusal.SyntaxKind.{SyntaxKind}
 use Rattle.base_refusals.specs.declared.refusal.SyntaxKind.TheVariants.{DeepSections}
@@ -9,9 +9,9 @@ use Rattle.mdl_tree.specs.Walks.{SectionTree}
 use Rattle.mdl_tree.proofs.lemmas.OneTree.{append_items-End, with_parameter, with_section, parts, onto, onto-End, one_part, one_tree}
 use Rattle.mdl_reader.specs.Building.{tree_from, with_items, section_item, file_of}
 
--- ---- The first fault
+-- ---- The first error
 
--- the fault of a result, if it is one
+-- the error of a result, if it is one
 abbrev fault_of : Result Items (ℕ × SyntaxKind) → Option (ℕ × SyntaxKind)
 fault_of (Ok items) = None
 fault_of (Err fault) = Some fault

@@ -22,7 +22,7 @@ with_quoted None section = section
 with_quoted (Some parameter) section =
     with_items section (Param parameter.name parameter.value.items parameter.line End)
 
--- the statements behind the quoted parameter, if there is one, which takes the strings that they
+-- the statements after the quoted parameter, if there is one, which takes the strings that they
 -- begin with
 abbrev pub continuing : Option Parameter → List Statement → List Statement
 continuing None statements = statements
@@ -38,7 +38,7 @@ outcome last builder statements =
     tree_from last (section_tree builder.current) (around_of builder)
     (continuing builder.quoted (joined statements))
 
--- where the next line stands
+-- where the next line is
 abbrev pub within_begun : Option Parameter → Within
 within_begun None = NoValue
 within_begun (Some parameter) = Value parameter.line parameter.name parameter.value.items
@@ -55,7 +55,7 @@ abbrev pub Reads : Builder → Builder → List Statement → Type 0
 Reads old new statements = (last : ℕ) (rest : List Statement) →
     outcome last new rest ≡ outcome last old (statements ++ rest)
 
--- with these statements the builder comes to this fault
+-- with these statements the builder comes to this error
 abbrev pub FailsAt : Builder → List Statement → ℕ → SyntaxKind → Type 0
 FailsAt builder statements line kind =
     (last : ℕ) (rest : List Statement) →
@@ -67,11 +67,11 @@ Steps old new result statement =
     Answers result (λ _. Reads old new (statement ∷ []) × (new.begun ≡ old.begun))
     (FailsAt old (statement ∷ []))
 
--- the builder has read the statements of a line, and stands behind it
+-- the builder has read the statements of a line, and is after it
 abbrev pub HasRead : Builder → Builder → Within × List Statement → Type 0
 HasRead old new found = (within_begun new.begun ≡ found.0) × Reads old new found.1
 
--- a step over a line, by where the next one stands and what statements this one makes or ends
+-- a step over a line, by where the next one is and what statements this one makes or ends
 abbrev pub StepsOver : Builder → Builder → Result (Unit {0}) ReadFault → Within × List Statement →
     Type 0
 StepsOver old new result found = Answers result (λ _. HasRead old new found) (FailsAt old found.1)

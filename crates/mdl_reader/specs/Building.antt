@@ -1,4 +1,4 @@
--- What open sections and the statements behind them come to.
+-- What open sections and the statements after them come to.
 use Rattle.std.specs.Prelude.{ℕ, List, [], ◌∷◌, length, Result, Ok, Err, ◌==◌, if◌then◌else◌}
 use Rattle.base_refusals.specs.declared.refusal.SyntaxKind.{SyntaxKind}
 use Rattle.base_refusals.specs.declared.refusal.SyntaxKind.TheVariants.{StrayString, Brace, DeepSections}
@@ -14,11 +14,11 @@ file_of items = record { name = []; line = 0; items = items }
 abbrev pub section_item : SectionTree → Items
 section_item section = Section section.name section.line section.items End
 
--- a section with further items behind those that it has
+-- a section with further items after those that it has
 abbrev pub with_items : SectionTree → Items → SectionTree
 with_items section more = record section { items = append_items section.items more }
 
--- The items of the whole text, or its first fault: from the innermost section that is open, those
+-- The items of the whole text, or its first error: from the innermost section that is open, those
 -- around it from the inside out, and the statements that follow, in a text whose last line has the
 -- number `last`.
 abbrev pub tree_from : ℕ → SectionTree → List SectionTree → List Statement →

@@ -11,7 +11,7 @@ pub record IsFileOf (bytes : List ℕ) (file : SectionTree) : Type 0 where
   pub line : file.line ≡ 0
   pub items : Mdl bytes file.items
 
--- the first fault of the bytes; of want of memory nothing is said
+-- the first error of the bytes; nothing is said where memory runs out
 abbrev pub IsFaultOf : List ℕ → ReadFault → Type 0
 IsFaultOf bytes (Syntax line kind) = Fault bytes line kind
 IsFaultOf bytes Memory = ⊤

@@ -45,7 +45,7 @@ impl Parameter {
     }
 }
 
-/// Adds an item to a section, behind those that it has.
+/// Adds an item to a section, after those that it has.
 fn push_item(section: &mut Section, item: Item) -> Result<(), AllocError>
     ensures { OnOk result (section_tree section.new
         ≡ with_items (section_tree section.old) (with_item item End)) }

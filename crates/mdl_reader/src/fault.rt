@@ -7,7 +7,7 @@ use std::alloc::{AllocError, AllocFailed};
 /// Why a text gives no tree of sections.
 #[derive(Clone, Copy, Debug, PartialEq, Eq, Drop)]
 pub enum ReadFault {
-    /// The first fault of the text: the number of its line from 1, where a number that 32 bits don't
+    /// The first error of the text: the number of its line from 1, where a number that 32 bits don't
     /// hold is given as the greatest that they do.
     Syntax { line: u32, kind: SyntaxKind },
     /// There was no memory.

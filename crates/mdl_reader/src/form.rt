@@ -35,7 +35,7 @@ fn is_name_byte(byte: u8) -> bool
     byte.is_ascii_alphabetic() || byte.is_ascii_digit() || matches!(byte, b'_' | b'.' | b'$')
 }
 
-/// How many bytes of a name stand at the front.
+/// How many bytes of a name are at the front.
 fn name_len(text: &[u8]) -> usize
     ensures value { result ≡ prefix_len is_name_byte text.now }
     ensures within { result ≤ length text.now }
@@ -49,7 +49,7 @@ fn is_open_brace(text: &[u8]) -> bool
     matches!(text, [b'{'])
 }
 
-/// A parameter by the text behind its name and blanks.
+/// A parameter by the text after its name and blanks.
 fn parameter_form<'a>(
     alloc: Global,
     line: u32,
@@ -70,7 +70,7 @@ fn parameter_form<'a>(
     }
 }
 
-/// A line that begins with a name, by the name and what stands directly behind it.
+/// A line that begins with a name, by the name and what is directly after it.
 fn named_form<'a>(
     alloc: Global,
     line: u32,
@@ -92,7 +92,7 @@ fn named_form<'a>(
     }
 }
 
-/// What a line without the blanks at its ends says. A fault is one of this line.
+/// What a line without the blanks at its ends says. An error is one of this line.
 pub(crate) fn line_form<'a>(alloc: Global, line: u32, text: &'a [u8]) -> Result<Form<'a>, ReadFault>
     ensures { Answers result
         (λ form. form_of line form ≡ line_form line text.now)

@@ -10,10 +10,10 @@ use mdl_tree::Section;
 use std::alloc::Global;
 
 /// Reads a text model file (MDL, as the Simulink reference describes it) to the tree of its sections,
-/// which stand in a section of no name at line 0. Lines are numbered from 1.
+/// which are in a section of no name at line 0. Lines are numbered from 1.
 ///
 /// It takes time linear in the text, and no recursion. `Syntax` comes exactly where the text spells no
-/// tree, with the first fault of the text.
+/// tree, with the first error of the text.
 pub fn read_mdl(alloc: Global, bytes: &[u8]) -> Result<Section, ReadFault>
     ensures tree { IfOk result (λ section. IsFileOf bytes.now (section_tree section)) }
     ensures fault { IfErr result (IsFaultOf bytes.now) }

@@ -6,7 +6,7 @@ use crate::fault::ReadFault;
 use base_refusals::SyntaxKind;
 use std::alloc::{AllocError, Global};
 
-/// Adds what a byte behind a backslash stands for.
+/// Adds what a byte after a backslash stands for.
 fn push_escaped(value: &mut Vec<u8>, byte: u8) -> Result<(), AllocError>
     ensures { OnOk result (value.new.items ≡ value.old.items ++ string_byte true byte) }
 {
@@ -22,8 +22,8 @@ fn push_escaped(value: &mut Vec<u8>, byte: u8) -> Result<(), AllocError>
     Ok(())
 }
 
-/// The value of a quoted string, which is read from behind its first quote and is to end with the
-/// bytes. A fault is one of this line.
+/// The value of a quoted string, which is read from after its first quote and is to end with the
+/// bytes. An error is one of this line.
 pub(crate) fn read_string(alloc: Global, line: u32, bytes: &[u8]) -> Result<Vec<u8>, ReadFault>
     ensures { Answers result
         (λ value. string_from false bytes.now ≡ Some (value.items, []))

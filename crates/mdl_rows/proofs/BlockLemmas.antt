@@ -65,7 +65,7 @@ owner-fits bs k d are short h =
 
 -- ---- In memory
 
--- a block in memory stands at its number
+-- a block in memory is at its number
 pub number-is : (xs : List NumberedBlock) (i : ℕ) (b : NumberedBlock) → AreNumbered 0 (all_seen xs) → i < length xs →
     b ≡ slice_index_or xs i b → b.number ≡ i
 number-is xs i b are h at =

@@ -40,7 +40,7 @@ empty-at [] e all = refl
 empty-at (own ∷ rest) zero all = all.0
 empty-at (own ∷ rest) (suc e) all = empty-at rest e all.1
 
--- groups in which nothing stands
+-- groups with nothing in them
 pub no_groups : (g : Groups) (o : Option ℕ) → g.root.items ≡ [] → AllByRecursion (λ own. own.items ≡ []) g.inner.items → group_of g o ≡ []
 no_groups g None root inner = root
 no_groups g (Some e) root inner = empty-at g.inner.items e inner

@@ -90,7 +90,7 @@ no-sources at m = by (numbers_of m)
     by [] = refl
     by (n ∷ ns) = by ns
 
--- a block stands among those of its system at its place
+-- a block is among those of its system at its place
 place-is : (blocks : List Block) (k : ℕ) (b d : Block) → slice_get blocks k ≡ Some b →
     let own = length (blocks_of (take k blocks) b.owner) in
     (own < length (blocks_of blocks b.owner)) × (slice_index_or (blocks_of blocks b.owner) own d ≡ b)

@@ -27,9 +27,9 @@ use Rattle.mdl_blocks.specs.Held.{kind_text, body_text, type_said, time_said}
 use Rattle.mdl_rows.specs.RowTexts.{IsKind, is_float, row_fault}
 use Rattle.mdl_rows.specs.Held.{IsBodyRow}
 
--- ---- Faults
+-- ---- Errors
 
--- the fault of a type alone
+-- the error of a type alone
 plain : {A : Type 0} (type : WrittenType) (f : TypeText → A) →
     result_err (known_type type >>= (λ t. Ok (f t))) ≡ elim (is_float (type_said type)) [ true ↦ Some FloatType | false ↦ None ]
 plain (a_type.Known t) f = refl

@@ -52,7 +52,7 @@ abbrev pub IsThere : (n : ℕ) → Option ℕ → Type 0
 IsThere n None = ⊤
 IsThere n (Some e) = e < n
 
--- the blocks stand at their numbers, and their owners are among them
+-- the blocks are at their numbers, and their owners are among them
 pub record AreBlocks (blocks : List Block) : Type 0 where
   pub numbers : AreNumbered 0 blocks
   pub owners : All (λ (b : Block). IsThere (length blocks) b.owner) blocks

@@ -58,7 +58,7 @@ IsKind (rate_transition initial out) control k =
 IsKind (enable_port reset) control k = k ≡ row.EnablePort
 IsKind (trigger_port edge) control k = k ≡ row.TriggerPort
 
--- ---- Faults
+-- ---- Errors
 
 -- whether a period 0 is written
 abbrev pub is_zero : TimeSaid → Bool

@@ -15,11 +15,11 @@ use mdl_systems::PlacedBlock;
 use mdl_tree::Section;
 use std::alloc::Global;
 
-/// The rows of a model with this System and these blocks, which stand in the order of the file.
+/// The rows of a model with this System and these blocks, which are in the order of the file.
 ///
 /// Fails exactly with the first refusal of its systems for their names, ports and lines, or else of its blocks for their times
-/// and types: `Continuous` for a period 0, `FloatType` for a floating-point type. Of several that of the least number is told,
-/// and of these that at the least line.
+/// and types: `Continuous` for a period 0, `FloatType` for a floating-point type. Of several that of the least number is
+/// reported, and of these that at the least line.
 pub fn rows_of(
     alloc: Global,
     system: &Section,

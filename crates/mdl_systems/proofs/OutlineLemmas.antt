@@ -87,7 +87,7 @@ inside-other number depth name line items rest e =
           outlines_inside number depth rest
     ]) e
 
--- nothing is taken behind the last item
+-- nothing is taken after the last item
 pub inside-end : (olds : List held.Outline) (number depth : ℕ) (items : List Item) (i : ℕ) → length items ≤ i → (whole : List Outline) →
     outlines_inside number depth (items_of (drop i items)) ≡ whole → all_seen olds ≡ all_seen olds ++ whole
 inside-end olds number depth items i h whole e =

@@ -136,7 +136,7 @@ none-held z start depth items apart out =
 
 -- ---- The blocks of a System's items whose owner is that system
 
--- those behind a Block, which are numbered from here on
+-- those after a Block, which are numbered from here on
 abbrev pub behind_block : (start : ℕ) (owner : Option ℕ) (depth : ℕ) → Peers → SectionTree → (rest : Items) → List Outline
 behind_block start owner depth peers section rest =
     outlines_in (start + suc (length (blocks_held start depth section.items))) owner depth peers rest

@@ -1,4 +1,4 @@
--- Where each block of a model stands.
+-- Where each block of a model is.
 use Rattle.std.proofs.Common.{◌≡◌, refl, sym, ◌∙◌, ap, subst, subst₂, ℕ, zero, suc, ◌+◌, ◌<◌, ◌≤◌, Bool, true, false, cond, List, [], ◌∷◌, ◌++◌, length, slice_get, Contains, Some, arith}
 use Rattle.std.specs.Prelude.{option_and_then}
 use Rattle.std.proofs.lemmas.Option.{slice_get_within}
@@ -17,7 +17,7 @@ module _ (blocks : List Outline) where
     pub owner : block.owner ≡ top outer
     pub depth : block.depth ≡ length outer
 
-  -- the stack of subsystems around what stands at place i
+  -- the stack of subsystems around what is at place i
   abbrev pub IsChain : List ℕ → ℕ → Type 0
   IsChain [] i = Unit {0}
   IsChain (e ∷ es) i = (e < i) × IsAround e es × IsChain es e
@@ -33,7 +33,7 @@ module _ (blocks : List Outline) where
   chain-outer : (t s : List ℕ) (i : ℕ) → IsOuter t s → IsChain s i → IsChain t i
   chain-outer t s i outer chain = chain-part outer.inner t i (subst (λ s. IsChain s i) outer.is chain)
 
-  -- the block at i stands inside these subsystems, and so does the one behind it, or inside the block
+  -- the block at i is inside these subsystems, and so does the one after it, or inside the block
   pub record IsPlaced (i : ℕ) (b : Outline) : Type 0 where
     pub around : List ℕ
     pub chain : IsChain around i
@@ -64,7 +64,7 @@ module _ (blocks : List Outline) where
   rest-first : (b : Outline) (i : ℕ) (rest : List Outline) → AreRest i (b ∷ rest) → slice_get blocks i ≡ Some b
   rest-first b i rest are = ap (slice_get blocks) (sym (plus_zero i)) ∙ sym (are 0)
 
-  -- the same of the block behind the first one
+  -- the same of the block after the first one
   rest-next : (b : Outline) (i : ℕ) (rest : List Outline) (c : Outline) → AreRest i (b ∷ rest) → slice_get blocks (suc i) ≡ Some c →
       slice_get rest 0 ≡ Some c
   rest-next b i rest c are h = rest-later b i rest are 0 ∙ ap (slice_get blocks) (plus_zero (suc i)) ∙ h

@@ -16,14 +16,14 @@ use Rattle.mdl_systems.specs.Reading.{IsRead}
 use Rattle.mdl_systems.specs.Held.{seen, all_seen}
 use Rattle.mdl_systems.proofs.PassLemmas.{items-from}
 
--- a block that is read is told by none
+-- a block that is read is reported by none
 pub none-read : (line : ℕ) (found : ℕ → Result BlockText Fault → Option PlainRefusal) (b : BlockText)
     (r : Result BlockText Fault) (before : Option PlainRefusal) →
     r ≡ Ok b → found line (Ok b) ≡ None → before ≡ earlier_of before (found line r)
 none-read line found b r before e none =
     sym (ap (λ x. earlier_of before (found line x)) e ∙ ap (earlier_of before) none ∙ earlier-none before)
 
--- a fault is told
+-- an error is reported
 pub some-told : (line : ℕ) (fault : Fault) (unread misformed : Option PlainRefusal) →
     earlier_of unread (unread_at line (Err fault)) ≡ None →
     earlier_of misformed (misformed_at line (Err fault)) ≡ None → ⊥

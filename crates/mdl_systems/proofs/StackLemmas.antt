@@ -1,4 +1,4 @@
--- The blocks of a model stand in preorder.
+-- The blocks of a model are in preorder.
 use Rattle.std.proofs.Common.{◌≡◌, refl, sym, ◌∙◌, ap, subst, ℕ, suc, ◌+◌, Bool, true, false, cond, List, [], ◌∷◌, ◌++◌, length, append_assoc, append-nil, Option, None, Some, arith, codes}
 use Rattle.std.specs.Prelude.{bytes_eq}
 use Rattle.mdl_tree.specs.Spelling.{Items, End, Param, Section}
@@ -31,11 +31,11 @@ outer-more e t s outer = record { inner = e ∷ outer.inner; is = ap (λ xs. e �
 outer-less : (e : ℕ) (t s : List ℕ) → IsOuter (e ∷ t) s → IsOuter t s
 outer-less e t s outer = record { inner = outer.inner ++ e ∷ []; is = outer.is ∙ sym (append_assoc outer.inner (e ∷ []) t) }
 
--- the stack behind a block
+-- the stack after a block
 abbrev pub behind : Outline → List ℕ → List ℕ
 behind b t = cond (is_subsystem b) (b.number ∷ t) t
 
--- each block stands in a system around the one before, or inside it
+-- each block is in a system around the one before, or inside it
 abbrev pub AreStacked : List ℕ → List Outline → Type 0
 AreStacked s [] = Unit {0}
 AreStacked s (b ∷ rest) = (t : List ℕ) × IsOuter t s × (b.owner ≡ top t) × (b.depth ≡ length t) × AreStacked (behind b t) rest

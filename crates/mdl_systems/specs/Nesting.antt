@@ -13,7 +13,7 @@ OutlinesAreNumbered =
 
 -- ---- Owners
 
--- where block k with this depth and this owner stands: in the root, at depth 0, or in a subsystem
+-- where block k with this depth and this owner is: in the root, at depth 0, or in a subsystem
 -- before it, one level deeper
 abbrev pub StandsIn : List Outline → (k depth : ℕ) → (owner : Option ℕ) → Type 0
 StandsIn blocks k depth None = depth ≡ 0
@@ -43,12 +43,12 @@ outward blocks (suc n) (Some e) = e ∷ outward blocks n (owner_at blocks e)
 abbrev pub owners_around : List Outline → Outline → List ℕ
 owners_around blocks b = outward blocks (length blocks) b.owner
 
--- the owner of the block behind a block: that block itself, a subsystem around it, or none
+-- the owner of the block after a block: that block itself, a subsystem around it, or none
 abbrev pub FollowsBlock : List Outline → Outline → Option ℕ → Type 0
 FollowsBlock blocks b None = ⊤
 FollowsBlock blocks b (Some e) = Contains (b.number ∷ owners_around blocks b) e
 
--- behind a block come the blocks inside it, or the next block of a system around it
+-- after a block come the blocks inside it, or the next block of a system around it
 abbrev pub OutlinesAreInPreorder : Type 0
 OutlinesAreInPreorder =
     (section : SectionTree) (k : ℕ) (b next : Outline) →

@@ -8,7 +8,7 @@ use Rattle.mdl_blocks.specs.Peers.{writes_type, peers_in}
 
 -- ---- Blocks
 
--- A block where it stands: its number in the order of the file, the number of the subsystem block
+-- A block where it is: its number in the order of the file, the number of the subsystem block
 -- around it, how many of these are around it, how many Inports and Outports its system has, and its
 -- section.
 pub record Outline : Type 0 where

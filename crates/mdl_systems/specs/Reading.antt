@@ -26,7 +26,7 @@ pub record IsRead (defaults : DefaultTexts) (b : Outline) (placed : PlacedBlock)
   pub owner : placed.owner ≡ b.owner
   pub block : read defaults b ≡ Ok (block_text placed.block)
 
--- no fault was found
+-- no error was found
 abbrev pub IsFaultless : BlockFaults → Type 0
 IsFaultless f = (as_plain f.unread ≡ None) × (as_plain f.misformed ≡ None)
 
@@ -34,11 +34,11 @@ IsFaultless f = (as_plain f.unread ≡ None) × (as_plain f.misformed ≡ None)
 abbrev pub AreBlocksOf : DefaultTexts → SectionTree → List PlacedBlock → Type 0
 AreBlocksOf defaults system blocks = AllZip (IsRead defaults) (outlines_of system) blocks
 
--- the fault of what has this first refusal: that one, or want of memory
+-- the error of what has this first refusal: that one, or out of memory
 abbrev pub IsFaultBy : Option PlainRefusal → BuildFault → Type 0
 IsFaultBy found (Refused refusal) = found ≡ Some (plain_refusal refusal)
 IsFaultBy found Memory = ⊤
 
--- the fault of what should give this result: its refusal, or want of memory
+-- the error of what should give this result: its refusal, or out of memory
 abbrev pub IsFaultOf : {A : Type 0} → Result A PlainRefusal → BuildFault → Type 0
 IsFaultOf result fault = IsFaultBy (result_err result) fault

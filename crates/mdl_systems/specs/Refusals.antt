@@ -60,7 +60,7 @@ unread_at line (Err fault.Unsupported) = Some (refusal.Unsupported line)
 unread_at line _ = None
 
 -- the refusal of a block at a line for a parameter out of form; a time or a type that may not be is
--- told of its row, not here
+-- reported of its row, not here
 abbrev pub misformed_at : (line : ℕ) → Result BlockText Fault → Option PlainRefusal
 misformed_at line (Ok block) = None
 misformed_at line (Err fault.Unsupported) = None

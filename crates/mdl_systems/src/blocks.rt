@@ -28,7 +28,7 @@ pub(crate) struct BlockFaults {
 }
 
 impl BlockFaults {
-    /// The same with the fault of one more block, at this line.
+    /// The same with the error of one more block, at this line.
     fn with(self, line: u32, fault: Fault) -> BlockFaults
         ensures unread { as_plain result.unread
             ≡ earlier_of (as_plain self.unread) (refused.unread_at line (Err fault)) }
@@ -49,7 +49,7 @@ impl BlockFaults {
     }
 }
 
-/// What was read of a model's blocks: the faults, and where there are none, what each block says.
+/// What was read of a model's blocks: the errors, and where there are none, what each block says.
 #[derive(Drop)]
 pub(crate) struct BlocksRead<'a> {
     pub faults: BlockFaults,
@@ -91,7 +91,7 @@ fn read_outlines<'a>(
 ///
 /// Fails exactly with the first refusal: `TooDeep` for a subsystem inside 32 others; `TooMany` for more than 20,000 blocks, or
 /// for more than 32 Inports or Outports in a system; `Unsupported` for a block that isn't read and for a line in the newer form;
-/// `Parameter` for a parameter out of form. Of several with one name that at the least line is told.
+/// `Parameter` for a parameter out of form. Of several with one name that at the least line is reported.
 pub fn read_model<'a>(
     alloc: Global,
     defaults: &'a Defaults,

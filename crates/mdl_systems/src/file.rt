@@ -59,7 +59,7 @@ fn model_among<'a>(
 /// The model of a file's sections, with its System.
 ///
 /// Fails with `NoModel` exactly where the file has neither a model nor a library, or its first model has no System, and else
-/// with `TwoModels` exactly where it has a library, the first of which is told, or else a second model.
+/// with `TwoModels` exactly where it has a library, the first of which is reported, or else a second model.
 pub fn find_model<'a>(alloc: Global, file: &'a Section) -> Result<ModelSections<'a>, BuildFault>
     ensures model { IfOk result (λ m. models_of.model_of (section_tree file.now).items ≡ Ok (model_seen m)) }
     ensures fault { IfErr result (IsFaultOf (models_of.model_of (section_tree file.now).items)) }

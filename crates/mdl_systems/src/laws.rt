@@ -13,12 +13,12 @@ pub fn reading_is_by_defaults()
     ensures { ReadingIsByDefaults }
 {}
 
-/// A block stands in the root, at depth 0, or in a subsystem block before it, one level deeper than that.
+/// A block is in the root, at depth 0, or in a subsystem block before it, one level deeper than that.
 pub fn owners_are_before()
     ensures { OwnersAreBefore }
 {}
 
-/// Behind a block come the blocks inside it, or the next block of a system around it.
+/// After a block come the blocks inside it, or the next block of a system around it.
 pub fn outlines_are_in_preorder()
     ensures { OutlinesAreInPreorder }
 {}

@@ -2,7 +2,7 @@ use crate::system::SystemText;
 use mdl_blocks::Peers;
 use mdl_tree::Section;
 
-/// A block where it stands: its number in the order of the file, from 0, the number of the subsystem block around it, how
+/// A block where it is: its number in the order of the file, from 0, the number of the subsystem block around it, how
 /// many of these are around it, how many Inports and Outports its system has, and its section.
 #[derive(Clone, Copy, Drop)]
 pub(crate) struct Outline<'a> {

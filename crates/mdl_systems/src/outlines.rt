@@ -60,7 +60,7 @@ fn push_if_there<T: Drop>(list: &mut Vec<T>, item: Option<T>) -> Result<(), Memo
     Ok(())
 }
 
-/// Takes the blocks of a System behind those taken before, each before the blocks inside it, and gives their system.
+/// Takes the blocks of a System after those taken before, each before the blocks inside it, and gives their system.
 #[cycle(blocks)]
 fn take_system<'a>(
     alloc: Global,

@@ -11,7 +11,7 @@ pub struct ModelSections<'a> {
     pub system: &'a Section,
 }
 
-/// A block of a model, and where it stands.
+/// A block of a model, and where it is.
 #[derive(Clone, Copy, Drop)]
 pub struct PlacedBlock<'a> {
     /// The number of the subsystem block around it, in the order of the file from 0; none in the root.

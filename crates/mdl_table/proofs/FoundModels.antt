@@ -61,7 +61,7 @@ found-step file m step e is =
     let HasStep : Option SectionTree → Type 0 = λ o. elim o [ Some model ↦ IsStepOf model.items step | None ↦ step ≡ None ] in
     subst HasStep (sym (found-first file m e)) is
 
--- the fault of a model that isn't found is that of the file
+-- the error of a model that isn't found is that of the file
 pub found-fault : {A : Type 0} (result : Result A BuildFault) (found : Result Model PlainRefusal) → IfErr result (IsFaultOf found) →
     IfErr result (IsFaultBy (refusal_by found))
 found-fault (Ok a) found is = is

@@ -43,7 +43,7 @@ use Rattle.mdl_table.proofs.SaidValues.{none-some, some-same, IsWhole, IsTruthRa
 use Rattle.mdl_table.proofs.SaidBodies.{IsSoundKind, IsTypeFor, IsTimeFor}
 use Rattle.mdl_table.proofs.lemmas.RowBlocks.{some-none, IsGood, has-model, table-of}
 
--- ---- Faults
+-- ---- Errors
 
 -- no period 0 and no floating-point type is written
 pub record IsFaultless (b : BodyText) : Type 0 where

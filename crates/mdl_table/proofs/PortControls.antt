@@ -98,7 +98,7 @@ one-most at member own none =
     short (x ∷ []) e = omega arith
     short (x ∷ y ∷ xs) e = absurd cc
 
--- where at most one has this, the first tells how many
+-- where at most one has this, the first says how many
 first-tells : {A B : Type 0} (f : B → Option A) (own : List B) → count_by (λ b. is_some (f b)) own ≤ 1 →
     count_by (λ b. is_some (f b)) own ≡ cond (is_some (slice_get (filter_map f own) 0)) 1 0
 first-tells f [] most = refl
@@ -162,7 +162,7 @@ same-place None (Some k) is = absurd (true≢false (sym is))
 same-place (Some j) None is = absurd (true≢false (sym is))
 same-place (Some j) (Some k) is = grind (arith, nat_tests)
 
--- no row stands past the end
+-- no row is past the end
 past : {A : Type 0} (xs : List A) (k : ℕ) (d : A) → length xs ≤ k → slice_index_or xs k d ≡ d
 past [] k d h = refl
 past (x ∷ xs) zero d h = absurd (omega (arith, h))

@@ -26,7 +26,7 @@ use Rattle.mdl_table.proofs.PortLists.{count-cons}
 
 -- ---- Outlines one by one
 
--- a block of a System's items, and those behind it, which are numbered from here on
+-- a block of a System's items, and those after it, which are numbered from here on
 abbrev block_at : (start : ℕ) (owner : Option ℕ) (depth : ℕ) → Peers → SectionTree → Outline
 block_at start owner depth peers section = record { number = start; owner = owner; depth = depth; peers = peers; section = section }
 
@@ -34,7 +34,7 @@ abbrev behind_block : (start : ℕ) (owner : Option ℕ) (depth : ℕ) → Peers
 behind_block start owner depth peers section rest = outlines_in
     (start + suc (length (blocks_held start depth section.items))) owner depth peers rest
 
--- a section with more items behind it
+-- a section with more items after it
 abbrev with_section : SectionTree → Items → Items
 with_section section rest = Section section.name section.line section.items rest
 
@@ -215,7 +215,7 @@ of-block start owner depth peers section rest e before =
 abbrev pub count_of : BlockType → List Outline → ℕ
 count_of type g = count_by (λ (b : Outline). writes_type type b.section.items) g
 
--- the blocks of one system have at most 32 Inports and 32 Outports, and tell how many
+-- the blocks of one system have at most 32 Inports and 32 Outports, and say how many
 pub record IsGroup (g : List Outline) : Type 0 where
   pub inports : count_of Inport g ≤ 32
   pub outports : count_of Outport g ≤ 32
@@ -225,7 +225,7 @@ pub record IsGroup (g : List Outline) : Type 0 where
 no-group : IsGroup []
 no-group = record { inports = omega arith; outports = omega arith; told_inports = tt; told_outports = tt }
 
--- at most 32 Inports and 32 Outports are told
+-- at most 32 Inports and 32 Outports are reported
 abbrev IsFew : Peers → Type 0
 IsFew peers = (peers.inports ≤ 32) × (peers.outports ≤ 32)
 
@@ -381,7 +381,7 @@ parts z xs ys (inl none) left right = subst IsGroup (sym (of-append z xs ys ∙ 
 parts z xs ys (inr none) left right = subst IsGroup (sym (of-append z xs ys ∙ ap (λ g. of_owner z xs ++ g) none
     ∙ append-nil (of_owner z xs))) left
 
--- behind a place there is none of an earlier one, and before it none of a later one
+-- after a place there is none of an earlier one, and before it none of a later one
 apart-parts : (z : Option ℕ) (start : ℕ) (owner : Option ℕ) (depth : ℕ) (peers : Peers) (section : SectionTree) (rest : Items) →
     same_system owner z ≡ false →
     (of_owner z (blocks_held start depth section.items) ≡ []) ⊎ (of_owner z (behind_block start owner depth peers section rest) ≡ [])

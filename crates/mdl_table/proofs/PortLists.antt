@@ -144,7 +144,7 @@ given-at {B} P f (w ∷ xs) (suc k) x y all e g = by (f w) all (λ all. given-at
 
 -- ---- Pairs
 
--- each item and each one behind it
+-- each item and each one after it
 abbrev pub AllPaired : {A : Type 0} → (A → A → Type 0) → List A → Type 0
 AllPaired R [] = Unit {0}
 AllPaired R (x ∷ xs) = AllByRecursion (R x) xs × AllPaired R xs

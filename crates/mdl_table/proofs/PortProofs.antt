@@ -42,7 +42,7 @@ port-bound None n most some is range = absurd (true≢false (sym some))
 port-bound (Some p) n most some is range = subst (λ n. (0 < n) × (n ≤ most)) (sym is) range
 
 -- What Inports and Outports have alike: the test of a kind, the port of a block, that of a shape, the BlockType, and how
--- many a block is told that its system has.
+-- many a block says that its system has.
 record IsSide (type : BlockType) (test : Kind → Bool) (said : KindText → Option ℕ) (port : Shape → Option ℕ)
     (told : Peers → ℕ) : Type 0 where
   kind : (text : KindText) (control : Control) (k : Kind) → IsKind text control k →
@@ -95,7 +95,7 @@ module _ (defaults : DefaultTexts) (section : SectionTree) (rs : List Row) (is :
         (port-bound (said found.row.text.body.kind) (port_of (row_at rs b).kind) (told found.outline.peers)
         (sym kind.0 ∙ passes) kind.1 (ranges found.outline (row_at rs b) found.row))
 
-    -- two rows of a system, one behind the other, don't have one port
+    -- two rows of a system, one after the other, don't have one port
     clash : (z : Option ℕ) → AllPaired (λ x y. same_by port (member_of (model_with defaults section).blocks y)
         (member_of (model_with defaults section).blocks x) ≡ false) (blocks_of (model_with defaults section).blocks z) →
         (b c : ℕ) → b < c → c < length rs → (row_at rs b).owner ≡ z → (row_at rs c).owner ≡ z →

@@ -80,7 +80,7 @@ pub record IsSound (t : BlockType) (b : BodyText) : Type 0 where
   pub time : IsSoundTime b.time_text
   pub time_for : IsTimeFor b.kind b.time_text
 
--- ---- Results one behind another
+-- ---- Results one after another
 
 -- a result that is there has a property
 abbrev pub Gives : {A E : Type 0} (P : A → Type 0) → Result A E → Type 0

@@ -28,7 +28,7 @@ any_depth-item wanted (Param name value line) rest = by (bytes_eq name wanted)
 any_depth-item wanted (Section' name line shape items) rest =
     ap (λ o. option_or o (first_at_any_depth wanted rest)) (sym (or_none (first_at_any_depth wanted (with_row items))))
 
--- the value inside a section that stands alone
+-- the value inside a section that is alone
 pub any_depth-section : (wanted : List ℕ) (inside : Section) →
     first_at_any_depth wanted (items_of inside.items.items) ≡ first_at_any_depth wanted (item_alone (views.Section inside))
 any_depth-section wanted inside =
@@ -64,7 +64,7 @@ outside-item wanted (Section' name line shape items) rest other =
     (option_or (first_at_any_depth wanted (with_row items)) (first_outside_system wanted rest))) other
     ∙ ap (λ o. option_or o (first_outside_system wanted rest)) (sym (or_none (first_at_any_depth wanted (with_row items))))
 
--- the search goes on behind the System
+-- the search goes on after the System
 pub behind-system : (wanted : List ℕ) (items : List Item) (i : ℕ) (item : Item) (b : Bool) → i < length items →
     item ≡ slice_index_or items i item →
     (not b && is_system_first (item_alone item)) ≡ true →
@@ -73,7 +73,7 @@ behind-system wanted items i item true h e system = absurd (true≢false (sym sy
 behind-system wanted items i item false h e system =
     sym (ap (first_outside_system wanted) (items_from items i item h e) ∙ outside-system wanted item (items_of (drop (i + 1) items)) system)
 
--- the search goes on behind another item
+-- the search goes on after another item
 pub behind-item : (wanted : List ℕ) (items : List Item) (i : ℕ) (item : Item) (b : Bool) → i < length items →
     item ≡ slice_index_or items i item →
     (not b && is_system_first (item_alone item)) ≡ false →

@@ -199,7 +199,7 @@ abbrev HasRowLine : List Row → Option ℕ → ℕ → Type 0
 HasRowLine rs None line = Unit {0}
 HasRowLine rs (Some e) line = line ≡ (row_at rs e).place.line
 
--- the row of a block tells its owner, its line, and whether it is a subsystem
+-- the row of a block says its owner, its line, and whether it is a subsystem
 pub record IsOwn (rs : List Row) (b : Outline) : Type 0 where
   pub owner : (row_at rs b.number).owner ≡ b.owner
   pub kind : kinds.is_subsystem (row_at rs b.number).kind ≡ is_subsystem b
@@ -302,7 +302,7 @@ module _ (os : List Outline) (fit : AllByRecursion Fits os) (has : AllByRecursio
 
 -- ---- Of a model
 
--- the row of a block stands at its number
+-- the row of a block is at its number
 own-row : (defaults : DefaultTexts) (m : Model) (os : List Outline) (rs : List Row) → AllZip (IsOutlineRow defaults m) os rs →
     ((k : ℕ) (b : Outline) → slice_get os k ≡ Some b → b.number ≡ k) →
     (k : ℕ) (b : Outline) → slice_get os k ≡ Some b → IsOwn rs b

@@ -5,7 +5,7 @@ use Rattle.std.specs.List.{AllByRecursion, cons_option}
 
 -- ---- Items by places
 
--- an item that passes stands behind those that pass before it
+-- an item that passes is after those that pass before it
 pub filter-place : {A : Type 0} (q : A → Bool) (xs : List A) (k : ℕ) (x : A) → slice_get xs k ≡ Some x → q x ≡ true →
     slice_get (filter q xs) (length (filter q (take k xs))) ≡ Some x
 filter-place q [] k x e t = absurd cc
@@ -21,7 +21,7 @@ filter-place q (y ∷ xs) (suc k) x e t = by (q y) (filter-place q xs k x e t)
     by true h = h
     by false h = h
 
--- what was filtered stood there, and passes
+-- what was filtered was there, and passes
 pub filter-from : {A : Type 0} (q : A → Bool) (xs : List A) (j : ℕ) (x : A) → slice_get (filter q xs) j ≡ Some x →
     (k : ℕ) × (slice_get xs k ≡ Some x) × (q x ≡ true)
 filter-from q [] j x e = absurd cc
@@ -51,7 +51,7 @@ find-there {A} q (y ∷ xs) (suc k) x e t = by (q y) (find-there q xs k x e t)
     by true h = (y, refl)
     by false h = h
 
--- what is found stands there, and passes
+-- what is found is there, and passes
 pub find-from : {A : Type 0} (q : A → Bool) (xs : List A) (x : A) → find q xs ≡ Some x →
     (k : ℕ) × (slice_get xs k ≡ Some x) × (q x ≡ true)
 find-from q [] x e = absurd cc
@@ -70,7 +70,7 @@ map-from f [] k y e = absurd cc
 map-from f (x ∷ xs) zero y e = (x, refl, cc e)
 map-from f (x ∷ xs) (suc k) y e = map-from f xs k y e
 
--- what stands below the length
+-- what is below the length
 pub get-there : {A : Type 0} (xs : List A) (k : ℕ) → k < length xs → (x : A) × (slice_get xs k ≡ Some x)
 get-there [] k h = absurd (omega arith)
 get-there (x ∷ xs) zero h = (x, refl)

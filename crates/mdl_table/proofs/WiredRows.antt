@@ -85,7 +85,7 @@ module _ (defaults : DefaultTexts) (section : SectionTree) (rs : List Row) (is :
   abbrev kind_at : ℕ → Kind
   kind_at k = (row_at rs k).kind
 
-  -- block b stands at k
+  -- block b is at k
   abbrev At : ℕ → Block → Type 0
   At k b = slice_get m.blocks k ≡ Some b
 

@@ -35,7 +35,7 @@ output-there ms at m text s (Some k) here p e =
     let range = number-up-to (output_count m.shape) text k p in
     subst (IsOutput ms) (some-same (source_with at k) s e) (m, here, range.0, range.1)
 
--- of a block in any form that tells its place and its ports
+-- of a block in any form that says its place and its ports
 output-from : {N : Type 0} (at_of : N → ℕ) (shape : N → Shape) (make : ℕ → Member → N) (ms : List Member) (place : Option ℕ)
     (port : Option (List ℕ)) (s : Source) →
     option_and_then (λ b. option_map (source_with (at_of b)) (option_and_then (output_named (shape b)) port))

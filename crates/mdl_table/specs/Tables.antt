@@ -31,6 +31,6 @@ HasRootLine (Ok model) line = line ≡ model.system.line
 HasRootLine (Err refusal) line = ⊥
 
 -- the root of a tree opens where the System of the file's model does; the rest of its systems the
--- table tells
+-- table says
 abbrev pub IsRootOf : Items → DiagramTree → Type 0
 IsRootOf file tree = HasRootLine (model_of file) (out-Subsystem tree.root).line

@@ -95,7 +95,7 @@ fn value_outside_system<'a>(model: &'a Section, name: &[u8]) -> Option<&'a Text>
     None
 }
 
-/// Whether an item is the first System, where none stands before it.
+/// Whether an item is the first System, where none is before it.
 fn passes_system(is_behind: bool, item: &Item) -> bool
     ensures { result ≡ (not is_behind && is_system_first (item_alone item.now)) }
 {

@@ -28,7 +28,7 @@ impl Item {
 impl Section {
     /// The sections of this name directly inside, in order.
     ///
-    /// Fails only for want of memory.
+    /// Fails only when memory runs out.
     pub fn sections_named<'a>(
         &'a self,
         alloc: Global,

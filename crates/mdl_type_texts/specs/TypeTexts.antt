@@ -36,7 +36,7 @@ meaning_of held.Logical = Logical
 meaning_of held.Back = Back
 meaning_of (held.Fixed t) = Fixed (format_of t)
 
--- whether the first text stands somewhere in the second
+-- whether the first text is somewhere in the second
 abbrev pub stands_in : List ℕ → List ℕ → Bool
 stands_in part [] = length part == 0
 stands_in part (c ∷ rest) = starts_with nat_eq (c ∷ rest) part || stands_in part rest
@@ -91,7 +91,7 @@ format_meaning (Some signed) width frac =
 abbrev pub is_comma : ℕ → Bool
 is_comma c = c == 44
 
--- a type by what stands between the brackets of `fixdt(s,w,f)`; a part that isn't there is empty,
+-- a type by what is between the brackets of `fixdt(s,w,f)`; a part that isn't there is empty,
 -- and the last one is all that is left
 abbrev pub fixdt_meaning : List ℕ → Result Meaning TypeFault
 fixdt_meaning text =
@@ -122,6 +122,6 @@ named_meaning None text = unnamed_meaning text
 abbrev pub type_meaning : List ℕ → Result Meaning TypeFault
 type_meaning text = named_meaning (named_format (trim text)) (trim text)
 
--- a reading of the text gives its meaning, or its fault
+-- a reading of the text gives its meaning, or its error
 abbrev pub ReadsTypeAs : Result TypeText TypeFault → Result Meaning TypeFault → Type 0
 ReadsTypeAs result meaning = result_map_both meaning_of (λ fault. fault) result ≡ meaning

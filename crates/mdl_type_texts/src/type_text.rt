@@ -90,7 +90,7 @@ fn inherited(text: &[u8]) -> TypeText
     }
 }
 
-// Whether the first text, which isn't empty, stands somewhere in the second.
+// Whether the first text, which isn't empty, is somewhere in the second.
 fn stands_in(part: &[u8], text: &[u8]) -> bool
     requires { 0 < length part.now }
     ensures { result ≡ text_of.stands_in part.now text.now }
@@ -105,7 +105,7 @@ fn stands_in(part: &[u8], text: &[u8]) -> bool
     false
 }
 
-// What stands between the brackets of `fixdt(s,w,f)`.
+// What is between the brackets of `fixdt(s,w,f)`.
 fn between_brackets(text: &[u8]) -> Option<&[u8]>
     ensures { MatchOption result (is_fixdt text.now ≡ false)
         (λ parts. (is_fixdt text.now ≡ true)
@@ -120,7 +120,7 @@ fn between_brackets(text: &[u8]) -> Option<&[u8]>
     }
 }
 
-// A type by what stands between the brackets.
+// A type by what is between the brackets.
 fn read_fixdt(parts: &[u8]) -> Result<TypeText, TypeFault>
     ensures { ReadsTypeAs result (fixdt_meaning parts.now) }
 {
@@ -129,14 +129,14 @@ fn read_fixdt(parts: &[u8]) -> Result<TypeText, TypeFault>
     read_format(trim(sign), trim(width), trim(frac))
 }
 
-// Where the first comma stands, or the length.
+// Where the first comma is, or the length.
 fn comma_place(text: &[u8]) -> usize
     ensures { result ≡ position_or_len is_comma text.now }
 {
     text.iter().take_while(|c| **c != b',').count()
 }
 
-// What stands before the first comma and behind it, or the text and nothing.
+// What is before the first comma and after it, or the text and nothing.
 fn split_at_comma(text: &[u8]) -> (&[u8], &[u8])
     ensures before { result.0.now ≡ before_first is_comma text.now }
     ensures behind { result.1.now ≡ after_first is_comma text.now }

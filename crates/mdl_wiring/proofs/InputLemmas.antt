@@ -130,7 +130,7 @@ pub copied_some : (found : Option (Bor ℕ)) → is_some (option_copied found) �
 copied_some None = refl
 copied_some (Some r) = refl
 
--- ---- What the map tells
+-- ---- What the map says
 
 -- whether an earlier line end leads to an input
 pub led-before : {S : Type 0} (ends : List LineEnd) (inputs : IndexMap Input ℕ S) (input : Input) (at : ℕ) → AreInputsOf ends inputs →

@@ -137,7 +137,7 @@ or-true : (t : Bool) → (t || (true || false)) ≡ true
 or-true true = refl
 or-true false = refl
 
--- behind some line ends, of which one leads to an input or none, none or at most one does
+-- after some line ends, of which one leads to an input or none, none or at most one does
 few-lines : (input : Input) (before rest : List LineEnd) → NoSecond before rest → (t : Bool) → list_any (leads_to input) before ≡ t →
     length (filter (leads_to input) rest) ≤ cond t 0 1
 few-lines input before [] none true e = omega arith

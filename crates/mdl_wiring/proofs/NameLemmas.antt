@@ -82,7 +82,7 @@ place-other : (ms : List Member) (own : Member) (name : List ℕ) → has_name n
 place-other ms own name e =
     place-push ms own name ∙ ap (λ t. option_or (place_of name ms) (cond t (Some (length ms)) None)) e ∙ option_or-None (place_of name ms)
 
--- a name that is taken at a place behind others has the first place at which it was taken
+-- a name that is taken at a place after others has the first place at which it was taken
 first-taken : {S : Type 0} (olds : List Member) (own : Member) (map : IndexMap (Bor (List ℕ)) ℕ S) (place : ℕ) → AreNamesOf olds map →
     place ≡ length olds →
     place_of own.name (olds ++ own ∷ []) ≡ Some (first_taken (place_in map own.name) place)

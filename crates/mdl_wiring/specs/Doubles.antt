@@ -26,7 +26,7 @@ abbrev pub Takes : {S : Type 0} → IndexSet ℕ S → IndexSet ℕ S → Option
 Takes ports wider port =
     (other : ℕ) → contains nat_eq wider other ≡ (contains nat_eq ports other || is_port port other)
 
--- what is told of a block's port, where a set has the ports of those before it
+-- what is reported of a block's port, where a set has the ports of those before it
 abbrev pub IsToldOf : {S : Type 0} → Side → IndexSet ℕ S → Member → Option PlainRefusal → Type 0
 IsToldOf side ports m found = (before : List Member) → ArePortsOf side before ports →
     found ≡ double_among (same_port side) before m

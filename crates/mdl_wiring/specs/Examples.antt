@@ -84,7 +84,7 @@ port-double : wiring_refusal true (adds ++ block (codes "C") 80 (Inport 2) ∷ [
     ≡ Some (DoubleName 80)
 port-double = refl
 
--- of two doubles that with the least line counts, in whatever order they stand
+-- of two doubles that with the least line counts, in whatever order they are
 least-double : wiring_refusal true (adds ++ block (codes "A") 90 (with_inputs 1)
     ∷ block (codes "Z") 80 (Outport 1) ∷ []) (adding End)
     ≡ Some (DoubleName 80)
@@ -97,7 +97,7 @@ no-source : wiring_refusal true adds (adding (wire 80 (codes "X") (codes "Y") (c
     ≡ Some (NoBlock 80)
 no-source = refl
 
--- a branch to a block that isn't there stands at its own line
+-- a branch to a block that isn't there is at its own line
 no-branch : wiring_refusal true adds
     (adding (a_line 80
     (leaves (codes "A") (codes "1") (branch 81 (enters (codes "X") (codes "1") End) End)) End))

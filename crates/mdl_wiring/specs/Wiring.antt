@@ -49,7 +49,7 @@ pub record IsWiringOf (is_root : Bool) (ms : List Member) (items : Items)
   pub lawful : wiring_refusal is_root ms items ≡ None
   pub sources : wiring_seen wiring ≡ sources_from (ends_in ms items) 0 ms
 
--- the fault of what has this first refusal: that one, or want of memory
+-- the error of what has this first refusal: that one, or out of memory
 abbrev pub IsFaultBy : Option PlainRefusal → WiringFault → Type 0
 IsFaultBy found (Refused refusal) = found ≡ Some (plain_refusal refusal)
 IsFaultBy found Memory = ⊤

@@ -6,7 +6,7 @@ use base_refusals::Refusal;
 pub enum WiringFault {
     /// The first refusal.
     Refused(Refusal),
-    /// Want of memory.
+    /// Out of memory.
     Memory,
 }
 

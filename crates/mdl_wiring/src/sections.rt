@@ -5,7 +5,7 @@ ghost use Rattle.mdl_wiring.specs.Lines.{parts_of_line};
 use base_core::Memory;
 use mdl_tree::{Item, Section};
 
-/// Takes a line's own section and those of its branches behind the parts taken before.
+/// Takes a line's own section and those of its branches after the parts taken before.
 pub(crate) fn take_parts<'a>(parts: &mut Vec<&'a Section>, line: &'a Section) -> Result<(), Memory>
     ensures { OnOk result (trees_of parts.new.items ≡ trees_of parts.old.items
         ++ parts_of_line (section_tree line.now)) }

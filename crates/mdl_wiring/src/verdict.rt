@@ -115,11 +115,11 @@ fn places_in<'a>(
 /// How the lines of a System lead between its blocks. `members` are all its blocks as lines see them, in the order of the
 /// file, and `is_root` says whether it is the system of the model itself.
 ///
-/// Fails with `Refused` exactly where the system has one of these faults: `DoubleName` at a block with the name of an earlier
+/// Fails with `Refused` exactly where the system has one of these errors: `DoubleName` at a block with the name of an earlier
 /// one, or the port of one where both are Inports or both are Outports; `NoBlock` and `NoPort` at a place that a line names;
 /// `TwoSources` at the later of two line ends at one input; `Unconnected` at an input without a line; `TwoControls` at the
 /// second EnablePort, the second TriggerPort, or any of them where this is the root. Of several the first in this order is
-/// told, and of one kind that with the least line.
+/// reported, and of one kind that with the least line.
 pub fn wire(
     alloc: Global,
     members: &[Member],

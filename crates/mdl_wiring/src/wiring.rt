@@ -54,7 +54,7 @@ fn source_into(ends: &[LineEnd], inputs: &Inputs, input: Input) -> Option<Source
     }
 }
 
-/// Takes a source behind those taken before, if it is there.
+/// Takes a source after those taken before, if it is there.
 fn take_source(sources: &mut Vec<Source>, source: Option<Source>) -> Result<(), Memory>
     ensures { OnOk result (sources.new.items ≡ sources.old.items ++ option_to_list source) }
 {

@@ -11,7 +11,7 @@ use std::process::ExitCode;
 use tool_entry::run_tool;
 use words::words_of;
 
-/// The status for want of memory.
+/// The status when memory runs out.
 const NO_MEMORY: u8 = 10;
 
 // Words that are no text ask for nothing.

@@ -76,7 +76,7 @@ pub record IsCertificateFor (needs : List ℕ) (c : PlainCertificate) : Type 0 w
 
 -- ---- The same by a rule
 
--- the least bit in which two sets differ: how many zeros stand below the lowest one of what lies in
+-- the least bit in which two sets differ: how many zeros are below the lowest one of what lies in
 -- just one of them
 abbrev pub least_difference : ℕ → ℕ → ℕ
 least_difference x y = trailing_zeros w64 (bit_xor x y)

@@ -37,7 +37,7 @@ fn are_all_pairs(count: usize, differ: &[Difference]) -> bool
     rest.is_empty()
 }
 
-// The differences behind those of a representative with so many others that follow it; none where they don't begin so.
+// The differences after those of a representative with so many others that follow it; none where they don't begin so.
 fn without_pairs(first: usize, others: usize, differ: &[Difference]) -> Option<&[Difference]>
     requires { first + others < 2 ^ 64 }
     ensures { MatchOption result

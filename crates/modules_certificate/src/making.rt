@@ -8,7 +8,7 @@ use std::alloc::Global;
 /// The certificate for outputs with these needs: the least output of each class of equal needs, and for each two of
 /// them the least bit that lies in just one of their needs. It is sound.
 ///
-/// The only fault is want of memory.
+/// The only error is out of memory.
 pub fn make(alloc: Global, needs: &[u64]) -> Result<Certificate, Memory>
     requires { length needs.now ≤ 32 }
     ensures { IfOk result (λ c. IsCertificateFor needs.now c) }

@@ -52,7 +52,7 @@ module _ (t : ℕ → Bool) where
   position-other i [] y fails = ap (λ r. cond r (Some i) None) fails
   position-other i (x ∷ xs) y fails = ap (λ r. cond (t x) (Some i) r) (position-other (i + 1) xs y fails)
 
-  -- what stands at a first place passes
+  -- what is at a first place passes
   pub found-at : (i : ℕ) (xs : List ℕ) (j : ℕ) → position_from t i xs ≡ Some j →
       (i ≤ j) × (j < i + length xs) × (t (get_or xs (j - i) 0) ≡ true)
   found-at i [] j e = absurd (let wrong : ⊥ = cc e in wrong)

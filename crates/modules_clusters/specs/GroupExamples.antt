@@ -9,7 +9,7 @@ two_classes = refl
 two_counted : class_count (1 ∷ 1 ∷ 0 ∷ []) ≡ 2
 two_counted = refl
 
--- nodes that two functions hold, and nodes of one each: the shared ones stand first
+-- nodes that two functions hold, and nodes of one each: the shared ones are first
 three_groups : map (place_of (3 ∷ 1 ∷ 2 ∷ 0 ∷ [])) (1 ∷ 2 ∷ 3 ∷ 0 ∷ 3 ∷ []) ≡ 1 ∷ 2 ∷ 0 ∷ 3 ∷ 0 ∷ []
 three_groups = refl
 

@@ -14,7 +14,7 @@ ComesBefore holds a b = (count_ones b < count_ones a)
 abbrev pub AreDifferent : List ℕ → Type 0
 AreDifferent sets = (i j : ℕ) → i < j → j < length sets → slice_index sets i ≢ slice_index sets j
 
--- each of these sets comes before those behind it
+-- each of these sets comes before those after it
 abbrev pub AreInOrder : List ℕ → List ℕ → Type 0
 AreInOrder holds sets = (i j : ℕ) → i < j → j < length sets →
     ComesBefore holds (slice_index sets i) (slice_index sets j)

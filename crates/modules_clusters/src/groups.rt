@@ -29,7 +29,7 @@ impl Model for Groups {
     ghost view = { λ g. record { of = g.of.items; holds = g.holds.items } };
 }
 
-/// The groups of nodes, by the functions that hold each node: nodes with equal sets are in one group. Groups stand by
+/// The groups of nodes, by the functions that hold each node: nodes with equal sets are in one group. Groups are ordered by
 /// falling number of functions, and then by the least node of each.
 ///
 /// In time linear in nodes times a logarithm.

@@ -52,7 +52,7 @@ module _ (test : Kind → Bool) (rows : List Row) (i : ℕ) (row : Row) (below :
             ∙ counts s
             ∙ sym (count_by_more_no (is_own test s) rows i row below (ap (is_own test s) (sym is) ∙ ap (λ x. x && test row.kind) other))
 
-  -- the same for a place that is told so
+  -- the same for a place that is given so
   pub added : (at : ℕ) (new : List ℕ) → at ≡ place_of row.owner → test row.kind ≡ true →
       slice_index_or new at 0 ≡ slice_index_or old at 0 + 1 →
       ((k : ℕ) → (k ≡ at → ⊥) → slice_index_or new k 0 ≡ slice_index_or old k 0) → AreCounts test (take (i + 1) rows) new

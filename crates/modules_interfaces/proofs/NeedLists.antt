@@ -1,4 +1,4 @@
--- The functions of a system tell what each of its outputs needs.
+-- The functions of a system say what each of its outputs needs.
 use Rattle.std.specs.Prelude.{◌≡◌, ◌⊎◌, ℕ, ◌<◌, ◌==◌, Bool, true, false, List, [], ◌∷◌, map, slice_get, slice_index_or, Contains, Some}
 use Rattle.std.specs.List.{range_with_len}
 use Rattle.std.proofs.Common.{refl, cond, length, sym, ap, ◌∙◌, arith, inl, inr, true≢false, get_or}

@@ -17,7 +17,7 @@ use Rattle.modules_interfaces.specs.Needs.{need_of}
 use Rattle.modules_interfaces.proofs.NeedLists.{needs-are}
 
 module _ (d : Diagram) (s : Option ℕ) (profile : SystemProfile) (is : IsProfileOf d s profile) where
-  -- its functions tell the needs of its outputs
+  -- its functions say the needs of its outputs
   needs-told : (outputs : ℕ) → outputs ≡ length (outports_of d.rows s) →
       map (need_of profile.functions) (range_with_len 0 outputs) ≡ is.needs
   needs-told outputs many =
@@ -25,7 +25,7 @@ module _ (d : Diagram) (s : Option ℕ) (profile : SystemProfile) (is : IsProfil
       AllZip-long (λ o mask. IsMaskOf (TrueNeeds d s o) mask) (outports_of d.rows s) is.needs is.are_needs in
       ap₂ (λ (fs : List Function) (n : ℕ). map (need_of fs) (range_with_len 0 n)) is.functions (many ∙ sym long) ∙ needs-are is.needs
 
-  -- a report with what these functions tell
+  -- a report with what these functions say
   pub report-is : (report : PlainReport) (needs : List ℕ) → report.row ≡ s → report.inputs ≡ length (inports_of d.rows s) →
       report.controls ≡ control_ports (system_control d.rows s) → report.outputs ≡ length (outports_of d.rows s) →
       report.profile ≡ profile → needs ≡ map (need_of profile.functions) (range_with_len 0 report.outputs) →

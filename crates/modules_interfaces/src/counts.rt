@@ -38,7 +38,7 @@ fn add_one(counts: &mut Vec<u32>, place: usize)
 
 /// How many Inports each system has, by place.
 ///
-/// Fails only for want of memory.
+/// Fails only when memory runs out.
 pub(crate) fn inport_counts(alloc: Global, rows: &[Row]) -> Result<Vec<u32>, Memory>
     requires few { length rows.now ≤ 20_000 }
     requires owners { All (λ row. place_of_system row.owner ≤ length rows.now) rows.now }
@@ -55,7 +55,7 @@ pub(crate) fn inport_counts(alloc: Global, rows: &[Row]) -> Result<Vec<u32>, Mem
 
 /// How many Outports each system has, by place.
 ///
-/// Fails only for want of memory.
+/// Fails only when memory runs out.
 pub(crate) fn outport_counts(alloc: Global, rows: &[Row]) -> Result<Vec<u32>, Memory>
     requires few { length rows.now ≤ 20_000 }
     requires owners { All (λ row. place_of_system row.owner ≤ length rows.now) rows.now }

@@ -25,7 +25,7 @@ pub fn report_of(alloc: Global, bytes: &[u8]) -> Result<Vec<u8>, ModelFault>
 
 /// The text of the reports on all systems of a resolved tree.
 ///
-/// Fails only for want of memory.
+/// Fails only when memory runs out.
 fn text_of(alloc: Global, r: &Resolved) -> Result<Vec<u8>, Memory>
     ensures { IfOk result (λ text. IsReportText (diagram_of r.now) text.items) }
 {

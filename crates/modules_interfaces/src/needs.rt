@@ -34,7 +34,7 @@ fn need_of(functions: &[Function], output: u32) -> u64
 
 /// The inputs that each of so many outputs needs.
 ///
-/// Fails only for want of memory.
+/// Fails only when memory runs out.
 pub(crate) fn needs_of(
     alloc: Global,
     outputs: u32,

@@ -76,7 +76,7 @@ fn ports_of(alloc: Global, control: Control) -> Result<Vec<Port>, Memory>
 
 /// The controls of a system, an enable before a trigger.
 ///
-/// Fails only for want of memory.
+/// Fails only when memory runs out.
 pub(crate) fn controls_of(
     alloc: Global,
     r: &Resolved,

@@ -17,7 +17,7 @@ use std::alloc::Global;
 /// The report on the system of a resolved tree that has this profile, by the counts of the Inports and Outports of all
 /// systems.
 ///
-/// Fails only for want of memory.
+/// Fails only when memory runs out.
 pub(crate) fn report_on(
     alloc: Global,
     r: &Resolved,

@@ -18,7 +18,7 @@ use std::alloc::Global;
 
 /// The reports on all systems of a resolved tree: that on the root, and then those on the subsystems by row.
 ///
-/// Fails only for want of memory.
+/// Fails only when memory runs out.
 pub(crate) fn reports_on_systems(alloc: Global, r: &Resolved) -> Result<Vec<SystemReport>, Memory>
     ensures each { IfOk result
         (λ reports. AllZip (IsReportOn (diagram_of r.now))

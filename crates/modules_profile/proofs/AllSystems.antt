@@ -157,7 +157,7 @@ module _ (rows : List Row) (nested : IsNested rows) where
       let low : f < inner.row = is-before rows nested inner.row f inner.sub.0 inner.under in
       omega (arith, e, low)
 
-  -- what is in one of two subsystems of a system stands before the other
+  -- what is in one of two subsystems of a system is before the other
   below-head : (e f r : ℕ) → IsSub e → IsSub f → owner rows nested f ≡ owner rows nested e → e < f → IsSub r →
       (e ≡ r) ⊎ IsUnder (Some e) r → r < f
   below-head e f r sub other same low is (inl here) = omega (arith, here, low)

@@ -83,7 +83,7 @@ module _ (d : Diagram) (wired : IsWired d.rows) (e : ℕ) (ports : HasPorts d.ro
   as_many_wires : length wires ≡ length inports
   as_many_wires = as-many d.rows wired e ports
 
-  -- ---- What stands in the mask is taken
+  -- ---- What is in the mask is taken
 
   abbrev test : ℕ → Port × ℕ → Bool
   test j x = has_bit (header_function header j).inputs (bit_of x.0)

@@ -1,4 +1,4 @@
--- Edges of nodes by a table that tells what gives each wire.
+-- Edges of nodes by a table that says what gives each wire.
 use Rattle.std.specs.Prelude.{◌≡◌, ◌⊎◌, ◌↔◌, ℕ, zero, suc, ◌+◌, ◌<◌, Bool, true, false, ◌==◌, cond, List, [], ◌∷◌, ◌++◌, filter_map, length, slice_get, get_or, take, Contains, Option, Some, None, refl, option_map, ◌||◌}
 use Rattle.std.specs.List.{list_any, cons_option}
 use Rattle.std.specs.Option.{option_to_list}

@@ -44,7 +44,7 @@ module _ (local : LocalSystem) (is : IsLocal local) (nodes : SystemNodes) (are :
   own-place-is : (i : ℕ) (r : LocalRow) → slice_get local.rows i ≡ Some r → place_of r ≡ i
   own-place-is i r at = own-place local is is_outport i r at
 
-  -- an own Outport stands at its place
+  -- an own Outport is at its place
   own-outport : (o : LocalRow) → Contains (outports local) o → slice_get local.rows (place_of o) ≡ Some o
   own-outport o h = stands-at local is is_outport o h
 

@@ -43,7 +43,7 @@ module _ (d : Diagram) (delays : List Bool) (s : Option ℕ) (headers : List Sys
   abbrev local : LocalSystem
   local = local_of d delays s headers
 
-  -- a child stands behind the row of the system
+  -- a child is after the row of the system
   pub before : (e : ℕ) → e < length d.rows → (row_at d.rows e).owner ≡ s → IsBefore s e
   before e below owned = by s (subst (IsOwner d.rows e) owned (laws.nested.owned e below))
     where

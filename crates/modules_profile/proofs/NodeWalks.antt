@@ -30,7 +30,7 @@ use Rattle.modules_profile.proofs.OwnNodes.{row-gives, of-row-gives}
 use Rattle.modules_profile.proofs.NodeSteps.{HasLaws, node-step}
 use Rattle.modules_profile.proofs.RowSteps.{At, row-step, at-own}
 
--- one walk behind another
+-- one walk after another
 join : (needs : ℕ → List ℕ) (a : ℕ) (path : List ℕ) (b : ℕ) (rest : List ℕ) (c : ℕ) → Walk needs a path b → Walk needs b rest c →
     Walk needs a (path ++ b ∷ rest) c
 join needs a [] b rest c step walk = (step, walk)

@@ -1,4 +1,4 @@
--- Rows with the ports from 1 to their number, each once: by port they stand each at its own.
+-- Rows with the ports from 1 to their number, each once: by port they are each at its own.
 use Rattle.std.specs.Prelude.{◌≡◌, ℕ, zero, suc, ◌+◌, ◌-◌, ◌<◌, ◌≤◌, Bool, true, false, ◌==◌, cond, eqb, List, [], ◌∷◌, map, filter, filter_map, find, length, slice_get, Contains, Option, Some, None, ⊤, refl}
 use Rattle.std.specs.List.{cons_option, range_with_len, list_any, IsDistinct, AllByRecursion}
 use Rattle.std.proofs.Common.{sym, ap, subst, ◌∙◌, arith, inl, inr, true≢false}
@@ -7,7 +7,7 @@ use Rattle.std.proofs.lemmas.List.{length-map}
 use Rattle.std.proofs.lemmas.Map.Steps.{length-le_from_distinct_below}
 use Rattle.modules_profile.proofs.lemmas.Members.{in-first, in-rest, in-cases, of-map, of-filter, of-filter_map, found-in, finds, of-range}
 
--- no number stands twice
+-- no number occurs twice
 abbrev pub Apart : List ℕ → Type 0
 Apart [] = ⊤
 Apart (x ∷ xs) = ((y : ℕ) → Contains xs y → x ≡ y → ⊥) × Apart xs
@@ -51,7 +51,7 @@ member q (x ∷ xs) h = elim (or_cases (eqb q x) (list_any (eqb q) xs) h) [
 at-most : (xs : List ℕ) (n : ℕ) → Apart xs → ((q : ℕ) → Contains xs q → q < n) → length xs ≤ n
 at-most xs n h below = length-le_from_distinct_below xs n (distinct xs h) (λ q m. below q (member q xs m))
 
--- where each number is found, what is found stands in order
+-- where each number is found, what is found is in order
 place-found : (f : ℕ → Option ℕ) (a n i : ℕ) → ((k : ℕ) → a ≤ k → k < a + n → (b : ℕ) × (f k ≡ Some b)) → i < n →
     slice_get (filter_map f (range_with_len a n)) i ≡ f (a + i)
 place-found f a zero i found h = absurd (omega arith)
@@ -115,7 +115,7 @@ module _ (port : ℕ → ℕ) (own : List ℕ) (apart : Apart own)
   abbrev numbered : List ℕ
   numbered = filter_map (λ k. find (λ b. port b == k) own) (range_with_len 1 (length own))
 
-  -- each row stands at its port
+  -- each row is at its port
   pub at-port : (b : ℕ) → Contains own b → slice_get numbered (port b - 1) ≡ Some b
   at-port b m =
       let r = range b m in

@@ -31,7 +31,7 @@ left-false : (a b : Bool) → (a && b) ≡ false → b ≡ true → a ≡ false
 left-false true b none holds = absurd (true≢false (sym holds ∙ none))
 left-false false b none holds = refl
 
--- what is used stands among the inputs of a row that feeds through and is no Inport
+-- what is used is among the inputs of a row that feeds through and is no Inport
 used-parts : (own feeds : Bool) (inputs : List ℕ) (c : ℕ) →
     Contains (if own then [] else (if feeds then inputs else [])) c → (own ≡ false) × (feeds ≡ true) × Contains inputs c
 used-parts true feeds inputs c h = absurd (in-none c h)

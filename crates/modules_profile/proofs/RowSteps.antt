@@ -31,7 +31,7 @@ use Rattle.modules_profile.proofs.ChildPorts.{takes-input, takes-control}
 use Rattle.modules_profile.proofs.OwnNodes.{IsChild, row-needs, row-gives, call-gives, call-needs, child-found}
 use Rattle.modules_profile.proofs.NodeSteps.{HasLaws, before, read, own-inside, stays}
 
--- one step behind what is reached
+-- one step after what is reached
 reaches-on : (needs : ℕ → List ℕ) (o b c : ℕ) → Reaches needs o b → Contains (needs b) c → Reaches needs o c
 reaches-on needs o b c (inl same) h = inr ([], subst (λ z. Contains (needs z) c) (sym same) h)
 reaches-on needs o b c (inr (path, walk)) h = inr (path ++ b ∷ [], walk-snoc needs o path b c walk h)
@@ -82,7 +82,7 @@ module _ (d : Diagram) (delays : List Bool) (s : Option ℕ) (headers : List Sys
   abbrev local : LocalSystem
   local = local_of d delays s headers
 
-  -- row a stands inside child e, where an Outport that function j gives reaches it
+  -- row a is inside child e, where an Outport that function j gives reaches it
   pub record IsWithin (e j a : ℕ) : Type 0 where
     pub profile : SystemProfile
     pub child : IsChild d delays s headers e profile
@@ -91,7 +91,7 @@ module _ (d : Diagram) (delays : List Bool) (s : Option ℕ) (headers : List Sys
     pub reached : Reaches (needs_inside d (Some e)) q a
     pub inside : IsInsideChild d.rows s e child.owned (before d delays s headers laws e child.below child.owned) a
 
-  -- the node at which a walk of rows stands
+  -- the node at which a walk of rows is
   abbrev pub At : Node → ℕ → Type 0
   At (Row b) a = (b ≡ a) × Contains (rows_of d.rows s) a
   At (Call e j) a = IsWithin e j a
@@ -192,7 +192,7 @@ module _ (d : Diagram) (delays : List Bool) (s : Option ℕ) (headers : List Sys
       (read d delays s headers laws a c place.0 need.2))
   row-step (Call e j) a c w h = child-leads e j a c w h
 
-  -- a walk that stands at an own row stands at its node
+  -- a walk that is at an own row is at its node
   pub at-own : (x : Node) (b : ℕ) → At x b → Contains (rows_of d.rows s) b → x ≡ Row b
   at-own (Row a) b (same, own) listed = ap Row same
   at-own (Call e j) b w listed =

@@ -46,7 +46,7 @@ module _ (rows : List Row) (nested : IsNested rows) where
             omega (arith, less, low)
       ]
 
-  -- a subsystem around a row stands before it
+  -- a subsystem around a row is before it
   pub is-before : (b x : ℕ) → b < length rows → Contains (above (owner b)) x → x < b
   is-before b x below h = before b (owner b) b x (nested.owned b below) below (omega arith) h
 

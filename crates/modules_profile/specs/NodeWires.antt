@@ -67,7 +67,7 @@ AreGivenOnce nodes =
     (a b c : ℕ) (x y : NodeWires) → slice_get nodes a ≡ Some x → slice_get nodes b ≡ Some y →
     Contains x.gives c → Contains y.gives c → a ≡ b
 
--- a table tells, of each wire that a node gives, a node that gives it, and of no other wire any
+-- a table says, of each wire that a node gives, a node that gives it, and of no other wire any
 pub record AreGivers (nodes : List NodeWires) (giver : ℕ → Option ℕ) : Type 0 where
   pub each : (a c : ℕ) (x : NodeWires) → slice_get nodes a ≡ Some x → Contains x.gives c →
       (b : ℕ) × (giver c ≡ Some b)

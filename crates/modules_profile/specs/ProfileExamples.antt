@@ -32,7 +32,7 @@ pub inner_name : system_name (Some 3) ≡ codes "s3"
 unfolding digits
 inner_name = refl
 
--- the enable stands before the trigger
+-- the enable is before the trigger
 pub gated_ports : input_ports gated (Some 3) ≡ all_ports
 gated_ports = refl
 

@@ -21,7 +21,7 @@ pub(crate) fn copy_header(alloc: Global, header: &Header) -> Result<Header, Memo
 impl Profile {
     /// A profile of its own with the same content.
     ///
-    /// Fails only for want of memory.
+    /// Fails only when memory runs out.
     pub fn copied(&self, alloc: Global) -> Result<Profile, Memory>
         ensures { IfOk result (λ copy. copy ≡ self.now) }
     {

@@ -16,7 +16,7 @@ use diagram_meaning::{Resolved, Subsystem, Time};
 use std::alloc::Global;
 use std::marker::Model;
 
-/// A system as the system around it sees it. Inputs and outputs stand by port, controls enable before trigger; an
+/// A system as the system around it sees it. Inputs and outputs go by port, controls enable before trigger; an
 /// output has its Outport row.
 #[derive(Drop)]
 pub struct Header {

@@ -23,7 +23,7 @@ use std::alloc::Global;
 /// The profile of the system `s` of a resolved tree, whose children have these profiles, in order: one output function
 /// for each different set of inputs that an output needs, by the least output of each.
 ///
-/// In time linear in the rows of the system and in the profiles of its children, but for the masks.
+/// In time linear in the rows of the system and in the profiles of its children, except the masks.
 pub fn profile_of(
     alloc: Global,
     r: &Resolved,

@@ -47,7 +47,7 @@ pub break-spaced : (ws : List (List ℕ)) (x : List ℕ) → IsBreak (spaced ws 
 break-spaced [] x = omega arith
 break-spaced (w ∷ ws) x = omega arith
 
--- words behind spaces up to the end of a line
+-- words after spaces up to the end of a line
 pub cut-words : (vs ws : List (List ℕ)) (x y : List ℕ) → AreWords vs → AreWords ws →
     spaced vs ++ 10 ∷ x ≡ spaced ws ++ 10 ∷ y → (vs ≡ ws) × (x ≡ y)
 cut-words [] [] x y v w e = (refl, same-tail 10 10 x y e)

@@ -1,4 +1,4 @@
--- The different members of a list, but for those that were seen before.
+-- The different members of a list, except for those that were seen before.
 use Rattle.std.proofs.Common.{◌≡◌, ℕ, suc, ◌==◌, ◌||◌, ◌&&◌, eqb, Bool, true, false, not, cond, List, [], ◌∷◌, ◌++◌, length, filter, refl, sym, ap, ap₂, subst, ◌∙◌, arith}
 use Rattle.std.specs.List.{AllByRecursion, list_any}
 use Rattle.std.proofs.lemmas.Bool.{eq-eqb, eqb-true, false≢true, ne_eqb}
@@ -134,7 +134,7 @@ all-kept (x ∷ xs) = ap (λ (t : List ℕ). x ∷ t) (all-kept xs)
 pub different-unseen : (ns : List ℕ) → different ns ≡ unseen nothing ns
 different-unseen ns = sym (all-kept (different ns)) ∙ unseen-different nothing ns
 
--- ---- What is behind the first
+-- ---- What is after the first
 
 abbrev first-or : ℕ → List ℕ → ℕ
 first-or d [] = d
@@ -179,7 +179,7 @@ none-seen p q (n ∷ ns) within = by (p n) refl (λ r h. none-seen r q ns h)
       more (and-also p n) (λ m e. also-before p n m (within m e)),
     )
 
--- what comes behind the first of them
+-- what comes after the first of them
 pub record Behind (d : ℕ) (p : ℕ → Bool) (rest : List ℕ) : Type 0 where
   pub members : List ℕ
   pub seen : ℕ → Bool

@@ -93,7 +93,7 @@ all-filled P last us (n ∷ ns) own a b = elim (is-hidden n) [
     at [] c more more' = subst (AllByRecursion P) (sym (hidden-last ns last)) (own, more)
     at (v ∷ vs) c more more' = subst (AllByRecursion P) (sym (hidden-next ns last v vs)) (c.0, more' v vs c.0 c.1)
 
--- a member that is none of the new ones stands at the same places
+-- a member that is none of the new ones is at the same places
 pub same-filled : (d last : ℕ) (us ns : List ℕ) → (d ≡ not_known → ⊥) → (last ≡ d → ⊥) → AllByRecursion (λ u. u ≡ d → ⊥) us →
     map (λ n. n == d) (fill last us ns) ≡ map (λ n. n == d) ns
 same-filled d last us [] known own a = ap (λ (t : List ℕ). map (λ n. n == d) t) (no-fill last us)
@@ -150,7 +150,7 @@ new-ones p last us (n ∷ ns) own a b few = elim (is-hidden n) [
         (more (and-also p v) v vs (also-self p v) c.1 (wider v ns b.1) (let one = hidden-more ns in
         omega (arith, most, one)))
 
--- Where the hidden ones come last among the different members, the new ones stand in their place.
+-- Where the hidden ones come last among the different members, the new ones are in their place.
 pub new-last : (p q : ℕ → Bool) (last u : ℕ) (us ns ds : List ℕ) (e : ℕ) → p not_known ≡ false → IsWithin p q → AreNew q (u ∷ us) →
     AllByRecursion (λ n. (n ≡ not_known) ⊎ (q n ≡ true)) ns → AllByRecursion (λ d. d ≡ not_known → ⊥) ds →
     length (u ∷ us) ≤ hidden_of ns → unseen p ns ≡ ds ++ e ∷ [] → unseen p (fill last (u ∷ us) ns) ≡ ds ++ u ∷ us

@@ -1,4 +1,4 @@
--- The sets of inputs of a system, by the line that tells its controls.
+-- The sets of inputs of a system, by the line that says its controls.
 use Rattle.std.proofs.Common.{◌≡◌, ℕ, ◌+◌, ◌%◌, ◌^◌, ◌≤◌, Bool, true, false, cond, ◌↔◌, ◌*◌, ◌<◌, IsTrue, [], ◌∷◌, length, map, refl, sym, ap, ap₂, ◌∙◌, arith}
 use Rattle.std.specs.Prelude.{nat_eq, sum}
 use Rattle.std.specs.List.{range_with_len}

@@ -176,7 +176,7 @@ module _ (keep : ℕ → Bool) (hides : keep not_known ≡ false) where
   shown-same [] a = refl
   shown-same (n ∷ ns) a = ap₂ (λ (m : ℕ) (t : List ℕ). m ∷ t) (shown n a.0) (shown-same ns a.1)
 
-  -- a member that is shown stands at the same places
+  -- a member that is shown is at the same places
   pub same-places : (d : ℕ) (ns : List ℕ) → keep d ≡ true → map (λ n. n == d) (map hide ns) ≡ map (λ n. n == d) ns
   same-places d [] own = refl
   same-places d (n ∷ ns) own = ap₂ (λ (t : Bool) (ts : List Bool). t ∷ ts) (by (keep n) refl) (same-places d ns own)

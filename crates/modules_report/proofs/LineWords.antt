@@ -1,4 +1,4 @@
--- The words of the lines of a report, and that lines tell their words.
+-- The words of the lines of a report, and that lines say their words.
 use Rattle.std.proofs.Common.{◌≡◌, ℕ, suc, ◌^◌, ◌<◌, Bool, true, false, cond, ltb, List, [], ◌∷◌, ◌++◌, length, map, refl, sym, ap, ap₂, subst, arith}
 use Rattle.std.specs.Prelude.{⊤, codes, decimal}
 use Rattle.std.specs.List.{AllByRecursion}

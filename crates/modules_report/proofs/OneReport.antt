@@ -74,7 +74,7 @@ all-small r h =
 
 -- ---- One system
 
--- what the lines of a system and of its functions tell is the whole system
+-- what the lines of a system and of its functions say is the whole system
 pub same-start : (r s : PlainReport) (x y : List ℕ) → IsSystemReport r → IsSystemReport s →
     system_line r ++ (out_lines (ports_of r) r.outputs 1 r.profile.functions ++ x)
     ≡ system_line s ++ (out_lines (ports_of s) s.outputs 1 s.profile.functions ++ y) →

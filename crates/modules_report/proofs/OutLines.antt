@@ -1,4 +1,4 @@
--- What the lines of functions and of differences tell.
+-- What the lines of functions and of differences say.
 use Rattle.std.proofs.Common.{◌≡◌, ℕ, zero, suc, ◌+◌, ◌-◌, ◌^◌, ◌<◌, ◌≤◌, Bool, true, false, cond, List, [], ◌∷◌, ◌++◌, map, filter, refl, sym, ap, ◌∙◌, append_assoc, arith}
 use Rattle.std.specs.Prelude.{codes, decimal}
 use Rattle.std.specs.List.{AllByRecursion, range_with_len}
@@ -42,7 +42,7 @@ out-shape j needs outputs x =
         (ap (λ (t : List ℕ). t ++ 10 ∷ x) (spaced-append needs (codes "outputs" ∷ outputs))
         ∙ append_assoc (spaced needs) (spaced (codes "outputs" ∷ outputs)) (10 ∷ x))
 
--- the words behind the first one
+-- the words after the first one
 abbrev pub out_words : List Port → ℕ → ℕ → Function → List (List ℕ)
 out_words ports outputs j f =
     listed_words (decimal j) (list_words (map port_word (ports_in f.inputs ports)))

@@ -1,4 +1,4 @@
--- The words of ports and of lists of ports tell them.
+-- The words of ports and of lists of ports say them.
 use Rattle.std.proofs.Common.{◌≡◌, ℕ, zero, suc, ◌+◌, ◌-◌, ◌^◌, ◌<◌, ◌≤◌, Bool, true, false, List, [], ◌∷◌, ◌++◌, ◌||◌, length, get_or, take, drop, map, min, refl, sym, ap, ap₂, subst, ◌∙◌, arith}
 use Rattle.std.specs.Prelude.{All, Option, Some, None, Result, Ok, bytes_eq, codes, decimal}
 use Rattle.std.specs.Str.{IsUtf8}
@@ -96,7 +96,7 @@ module _ {X : Type 0} (text : X → List ℕ) where
       by false true = refl
       by false false = refl
 
-  -- the lists before and behind a word
+  -- the lists before and after a word
   parts : (xs : List X) (before after : List (List ℕ)) (word : List ℕ) → map text xs ≡ before ++ word ∷ after →
       (map text (take (length before) xs) ≡ before) × (map text (drop (suc (length before)) xs) ≡ after) × (length before < length xs)
   parts [] [] after word e = absurd (let long : 0 ≡ suc (length after) = ap length e in omega (arith, long))

@@ -15,7 +15,7 @@ use Rattle.diagram_meaning.proofs.lemmas.RestsOnNeeds.{same_system-equal}
 use Rattle.modules_report.proofs.OutLines.{kept-are}
 use Rattle.modules_report.proofs.SameNeeds.{above-range}
 
--- ---- Lists in which no member stands twice
+-- ---- Lists in which no member occurs twice
 
 abbrev Distinct : List ℕ → Type 0
 Distinct [] = ⊤

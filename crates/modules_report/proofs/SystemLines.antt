@@ -1,4 +1,4 @@
--- What lines tell: each kind of line as words behind its first one.
+-- What lines say: each kind of line as words after its first one.
 use Rattle.std.proofs.Common.{◌≡◌, ℕ, suc, ◌^◌, ◌<◌, ◌≤◌, List, [], ◌∷◌, ◌++◌, length, map, refl, sym, ap, ◌∙◌, append_assoc, arith}
 use Rattle.std.specs.Prelude.{codes, decimal, Option, Some, None}
 use Rattle.std.specs.List.{AllByRecursion}

@@ -1,4 +1,4 @@
--- Where the lines of a system can't be read on, no text of reports goes on with the line that stands there.
+-- Where the lines of a system can't be read on, no text of reports goes on with the line that is there.
 use Rattle.std.proofs.Common.{◌≡◌, ◌⊎◌, ℕ, suc, ◌+◌, ◌^◌, ◌<◌, ◌≤◌, List, [], ◌∷◌, ◌++◌, length, get_or, map, refl, sym, ap, ap₂, subst, ◌∙◌, append-nil, append_assoc, arith, inl, inr}
 use Rattle.std.specs.Prelude.{flat_map}
 use Rattle.std.specs.List.{All, AllByRecursion, AllZip, range_with_len}
@@ -41,7 +41,7 @@ record Begun (read : List ℕ) : Type 0 where
   pub behind : List ℕ
   pub text : system_text report ≡ read ++ behind
 
--- Some lines that begin a system are read, and no system and no last line goes on with what stands behind them.
+-- Some lines that begin a system are read, and no system and no last line goes on with what is after them.
 record SystemStop (text : List ℕ) (left : ℕ) : Type 0 where
   pub read : List ℕ
   pub rest : List ℕ
@@ -528,7 +528,7 @@ stops-in-system bytes text left n rs each before len fits no_last stops =
       | inr more ↦ at.refuse y more.1 more.0 follows more.2 more.3
     ]
 
--- behind the last line there is something
+-- after the last line there is something
 pub stops-behind : (bytes text end : List ℕ) (n : ℕ) (rs : List PlainReport) → All IsSystemReport rs →
     bytes ≡ flat_map system_text rs ++ text →
     n ≡ length rs → n < 2 ^ 64 → text ≡ last_line n ++ end → (length end ≡ 0 → ⊥) → StopsIn bytes (length end)

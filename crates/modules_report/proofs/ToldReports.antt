@@ -1,4 +1,4 @@
--- The report that the lines of a system tell, before those of the differences are read.
+-- The report that the lines of a system say, before those of the differences are read.
 use Rattle.std.proofs.Common.{◌≡◌, ℕ, List, ◌++◌, length, refl, ap, subst, sym, ◌∙◌}
 use Rattle.base_core.specs.declared.Port.{Port}
 use Rattle.modules_certificate.specs.PlainCertificate.{PlainCertificate}

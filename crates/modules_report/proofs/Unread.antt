@@ -1,4 +1,4 @@
--- What stands where the words of a line tell nothing, or another line than the one that stands there.
+-- What is where the words of a line say nothing, or another line than the one that is there.
 use Rattle.std.proofs.Common.{◌≡◌, ℕ, List, ◌++◌, map, sym, ap, subst, ◌∙◌}
 use Rattle.std.specs.Prelude.{Option, Some, None, is_some}
 use Rattle.std.proofs.lemmas.Bool.{false≢true}

@@ -1,4 +1,4 @@
--- Words behind spaces, one more.
+-- Words after spaces, one more.
 use Rattle.std.proofs.Common.{◌≡◌, ℕ, zero, suc, ◌+◌, ◌-◌, ◌*◌, ◌^◌, ◌<◌, ◌≤◌, Bool, true, false, not, cond, List, [], ◌∷◌, ◌++◌, length, map, filter, get_or, take, bit_and, refl, sym, ap, ap₂, ◌∙◌, append-nil, append_assoc, arith}
 use Rattle.std.specs.Prelude.{codes, flat_map}
 use Rattle.std.specs.List.{enumerate_from, range_with_len}
@@ -27,7 +27,7 @@ pub has_word-more : (words : List (List ℕ)) (word : List ℕ) → has_word (wo
 has_word-more [] word = refl
 has_word-more (w ∷ words) word = refl
 
--- a list that is told to be empty where it is
+-- a list that is said to be empty where it is
 pub listed : (words : List (List ℕ)) (any : Bool) (old now next : List ℕ) → any ≡ has_word words →
     now ≡ old ++ spaced words → next ≡ now ++ cond any [] (codes " none") →
     next ≡ old ++ spaced (list_words words)

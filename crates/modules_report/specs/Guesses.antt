@@ -1,4 +1,4 @@
--- What the words of lines tell.
+-- What the words of lines say.
 use Rattle.std.specs.Prelude.{ℕ, ◌<◌, ⊤, List, ◌∷◌, ◌++◌, map, codes, decimal}
 use Rattle.base_core.specs.declared.Port.{Port}
 use Rattle.base_core.specs.Words.{port_word}
@@ -27,7 +27,7 @@ abbrev pub lists_words : List Port → List Port → List (List ℕ)
 lists_words needs outputs =
     list_words (map port_word needs) ++ codes "outputs" ∷ list_words (map port_word outputs)
 
--- a line isn't read, and not for want of memory
+-- a line isn't read, and not because memory runs out
 abbrev pub IsLeft : Stop → Type 0
 IsLeft (Left bytes) = ⊤
 IsLeft Memory = ⊥

@@ -30,7 +30,7 @@ pub record IsPossible (h : Head) : Type 0 where
   pub sets : HasSets h
   pub functions : CanComeFirst h.outputs h.functions []
 
--- a line that tells what a report does
+-- a line that says what a report does
 pub record IsHeadOf (r : PlainReport) (h : Head) : Type 0 where
   pub row : h.row ≡ r.row
   pub inputs : h.inputs ≡ r.inputs

@@ -19,7 +19,7 @@ pub record IsTextOf (bytes : List ℕ) (reports : List PlainReport) : Type 0 whe
   pub each : All IsSystemReport reports
   pub text : bytes ≡ report_text reports
 
--- the text of reports tells them: no other reports have it
+-- the text of reports says them: no other reports have it
 abbrev pub ReportsAreOne : Type 0
 ReportsAreOne = (bytes : List ℕ) (reports others : List PlainReport) → IsTextOf bytes reports →
     IsTextOf bytes others → reports ≡ others
@@ -40,7 +40,7 @@ pub record CanBegin (first : List ℕ) : Type 0 where
 abbrev pub joined : List (List ℕ) → List ℕ
 joined lines = flat_map (λ line. line) lines
 
--- the greatest number of a line that is told; it stands for those beyond it too
+-- the greatest number of a line that is reported; it stands for those beyond it too
 abbrev pub greatest_line : ℕ
 greatest_line = 2 ^ 32 - 1
 

@@ -24,7 +24,7 @@ abbrev pub AreInputs : PlainReport → ℕ → Type 0
 AreInputs r mask = IsSetOf (ports_of r) mask
 
 -- A report that is right for some needs of its outputs: its functions are those for them, which
--- part the outputs and stand by the least output of each, and its certificate has the least output
+-- part the outputs and are ordered by the least output of each, and its certificate has the least output
 -- of each function and, for each two of them, the least bit that lies in just one of their needs.
 pub record IsReport (r : PlainReport) : Type 0 where
   pub inputs : r.inputs ≤ 32

@@ -15,12 +15,12 @@ use Rattle.modules_report.specs.Reading.{CanBegin, HasRow, IsSystemReport, IsTex
 use Rattle.modules_report.specs.Reports.{IsSetOf}
 use Rattle.modules_report.specs.Texts.{differ_line, last_line, out_line, out_lines, ports_of, system_line, system_text}
 
--- what is so of the number of bytes that are left, unless the stop is for want of memory
+-- what is so of the number of bytes that are left, unless the stop is because memory runs out
 abbrev pub OfLeft : Stop → (ℕ → Type 0) → Type 0
 OfLeft (Left bytes) Holds = Holds bytes
 OfLeft Memory Holds = ⊤
 
--- what is so of the number of a line, unless the fault is want of memory
+-- what is so of the number of a line, unless the error is out of memory
 abbrev pub OfForm : ReportFault → (ℕ → Type 0) → Type 0
 OfForm (Form line) Holds = Holds line
 OfForm OutOfMemory Holds = ⊤
@@ -29,7 +29,7 @@ OfForm OutOfMemory Holds = ⊤
 abbrev pub NoneBegins : List ℕ → List ℕ → Type 0
 NoneBegins text line = (more : List ℕ) → text ≡ line ++ more → ⊥
 
--- the line of no system stands here
+-- the line of no system is here
 abbrev pub NoHead : List ℕ → Type 0
 NoHead text = (h : Head) → HasRow h.row → IsPossible h → NoneBegins text (head_text h)
 
@@ -38,12 +38,12 @@ pub record IsFunctionOf (ports : List Port) (outputs : ℕ) (f : Function) : Typ
   pub takes : IsSetOf ports f.inputs
   pub gives : f.outputs < 2 ^ outputs
 
--- the line of no such function stands here
+-- the line of no such function is here
 abbrev pub NoFunction : List Port → ℕ → ℕ → List ℕ → Type 0
 NoFunction ports outputs j text =
     (f : Function) → IsFunctionOf ports outputs f → NoneBegins text (out_line ports outputs j f)
 
--- the line of no other function stands here
+-- the line of no other function is here
 abbrev pub IsOnlyFunction : List Port → ℕ → ℕ → List ℕ → Function → Type 0
 IsOnlyFunction ports outputs j text g =
     (f : Function) (more : List ℕ) → IsFunctionOf ports outputs f →
@@ -121,7 +121,7 @@ pub record StopsIn (bytes : List ℕ) (left : ℕ) : Type 0 where
   pub stops : (line more : List ℕ) → IsWholeLine line → rest ≡ line ++ more →
       CanBegin (joined lines ++ line) → ⊥
 
--- Where systems are read, and what stands behind them is neither the last line nor can be read as a
+-- Where systems are read, and what is after them is neither the last line nor can be read as a
 -- system, there the text is one of no reports.
 abbrev pub StopsAreFaults : Type 0
 StopsAreFaults =

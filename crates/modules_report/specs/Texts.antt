@@ -17,7 +17,7 @@ ports_with inputs controls = map Number (range_with_len 1 inputs) ++ controls
 abbrev pub ports_of : PlainReport → List Port
 ports_of r = ports_with r.inputs r.controls
 
--- words, each behind a space
+-- words, each after a space
 abbrev pub spaced : List (List ℕ) → List ℕ
 spaced words = flat_map (λ word. 32 ∷ word) words
 
@@ -83,7 +83,7 @@ system_text r =
     ++ out_lines (ports_of r) r.outputs 1 r.profile.functions
     ++ flat_map (differ_line (ports_of r)) r.certificate.differ
 
--- the line that tells how many systems there are
+-- the line that says how many systems there are
 abbrev pub last_line : ℕ → List ℕ
 last_line systems = codes "systems " ++ decimal systems ++ codes "\n"
 

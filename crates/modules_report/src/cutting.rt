@@ -6,7 +6,7 @@ ghost use Rattle.modules_report.specs.Reading.{greatest_line};
 use base_core::Memory;
 use std::alloc::{AllocError, Global};
 
-/// What follows a line with its end; none where another one stands here.
+/// What follows a line with its end; none where another one is here.
 pub(crate) fn past<'a>(text: &'a [u8], line: &[u8]) -> Option<&'a [u8]>
     ensures { MatchOption result ((more : List ℕ) → text.now ≡ line.now ++ more → ⊥)
         (λ next. text.now ≡ line.now ++ next.now) }
@@ -45,7 +45,7 @@ fn words_of(alloc: Global, line: &[u8]) -> Result<Vec<&[u8]>, AllocError>
     line.split(|b| *b == b' ').collect(alloc)
 }
 
-/// The number of the line behind a text, or the greatest one.
+/// The number of the line after a text, or the greatest one.
 pub(crate) fn line_behind(text: &[u8]) -> u32
     ensures { result ≡ min (suc (count_by (λ b. b == 10) text.now)) greatest_line }
 {

@@ -10,7 +10,7 @@ use std::alloc::Global;
 // What stands for the needs of an output that no function gives yet: a set of no ports.
 const NOT_KNOWN: u64 = 1 << 63;
 
-/// Whether so many functions for so many outputs can begin so. The only fault is want of memory.
+/// Whether so many functions for so many outputs can begin so. The only error is out of memory.
 #[tactic(auto, using(crate::proofs::FollowTests::all_tested, crate::proofs::FollowTests::first_tested, crate::proofs::FollowTests::none_left_out))]
 pub(crate) fn can_come_first(
     alloc: Global,

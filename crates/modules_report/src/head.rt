@@ -10,7 +10,7 @@ use base_core::{Memory, Port};
 use modules_profile::Function;
 use std::alloc::Global;
 
-/// What the line of a system tells: the root, or a row, and how many inputs, outputs and functions it has, and which
+/// What the line of a system says: the root, or a row, and how many inputs, outputs and functions it has, and which
 /// controls.
 #[derive(Clone, Copy, Debug, PartialEq, Eq, Drop)]
 pub(crate) struct Head {
@@ -23,7 +23,7 @@ pub(crate) struct Head {
 }
 
 impl Head {
-    /// Whether there is such a system. The only fault is want of memory.
+    /// Whether there is such a system. The only error is out of memory.
     pub(crate) fn is_possible(self, alloc: Global) -> Result<bool, Memory>
         ensures can { IfOk result (λ can. IsTrue can → IsPossible self) }
         ensures only { IfOk result (λ can. IsPossible self → IsTrue can) }
@@ -54,7 +54,7 @@ impl Head {
         mask % (1 << self.inputs) + enable + trigger == mask
     }
 
-    /// Whether functions can come first, of which a last one has these inputs. The only fault is want of memory.
+    /// Whether functions can come first, of which a last one has these inputs. The only error is out of memory.
     pub(crate) fn can_have(
         self,
         alloc: Global,
@@ -75,7 +75,7 @@ impl Head {
         can_come_first(alloc, self.outputs, self.functions as usize, functions)
     }
 
-    /// The line. The only fault is want of memory.
+    /// The line. The only error is out of memory.
     pub(crate) fn line(self, alloc: Global) -> Result<String, Memory>
         ensures { IfOk result (λ line. string_bytes line ≡ head_text self) }
     {

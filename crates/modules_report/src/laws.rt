@@ -13,7 +13,7 @@ pub fn reports_on_are_right()
     ensures { ReportsOnAreRight }
 {}
 
-/// Where the lines of some systems are read, and what stands behind them is neither the last line nor can be read as a
+/// Where the lines of some systems are read, and what is after them is neither the last line nor can be read as a
 /// system, no text of reports begins with the lines that are read and the next one.
 pub fn stops_are_faults()
     ensures { StopsAreFaults }

@@ -11,7 +11,7 @@ use modules_certificate::Difference;
 use modules_profile::Function;
 use std::fmt::Write;
 
-/// Appends the line that tells how many inputs, outputs and functions a system has, and its controls.
+/// Appends the line that says how many inputs, outputs and functions a system has, and its controls.
 pub(crate) fn push_head_line(
     out: &mut String,
     row: Option<u32>,
@@ -64,7 +64,7 @@ fn push_controls(out: &mut String, controls: &[Port]) -> Result<(), Memory>
     push_all(out, controls)
 }
 
-// Appends ports, each behind a space.
+// Appends ports, each after a space.
 fn push_all(out: &mut String, ports: &[Port]) -> Result<(), Memory>
     ensures { OnOk result (string_bytes out.new
         ≡ string_bytes out.old ++ spaced (map port_word ports.now)) }
@@ -95,7 +95,7 @@ pub(crate) fn push_out_line(
     Ok(())
 }
 
-// Appends those of the ports that are in a set, each behind a space, or that there are none.
+// Appends those of the ports that are in a set, each after a space, or that there are none.
 fn push_ports(out: &mut String, ports: &[Port], mask: u64) -> Result<(), Memory>
     ensures { OnOk result (string_bytes out.new
         ≡ string_bytes out.old ++ ports_text ports.now mask) }
@@ -110,7 +110,7 @@ fn push_ports(out: &mut String, ports: &[Port], mask: u64) -> Result<(), Memory>
     push_none(out, any)
 }
 
-// Appends the numbers of those of the outputs that are in a set, each behind a space, or that there are none.
+// Appends the numbers of those of the outputs that are in a set, each after a space, or that there are none.
 fn push_outputs(out: &mut String, outputs: u32, mask: u32) -> Result<(), Memory>
     requires { outputs ≤ 32 }
     ensures { OnOk result (string_bytes out.new
@@ -157,7 +157,7 @@ pub(crate) fn push_differ_line(
     Ok(())
 }
 
-// Appends the port at a bit of a set behind a space.
+// Appends the port at a bit of a set after a space.
 fn push_ports_at(out: &mut String, ports: &[Port], bit: u32) -> Result<(), Memory>
     ensures { OnOk result (string_bytes out.new
         ≡ string_bytes out.old ++ spaced (map port_word (ports_at bit ports.now))) }

@@ -1,4 +1,4 @@
-// What the words of a line of a report tell, where they are those of one.
+// What the words of a line of a report say, where they are those of one.
 ghost use Rattle.std.specs.Prelude.{◌≡◌, ◌<◌, ◌≤◌, ◌^◌, ◌∷◌, ◌++◌, ℕ, All, List, Some, [], bytes_eq, codes, decimal, length, map, not};
 ghost use Rattle.std.specs.List.{list_any, prefix_len};
 ghost use Rattle.base_core.specs.declared.Port.TheVariants.{Number};
@@ -17,7 +17,7 @@ use crate::head::Head;
 use base_core::Port;
 use modules_profile::Function;
 
-/// What the words of a system's line tell.
+/// What the words of a system's line say.
 pub(crate) fn head_in(words: &[&[u8]]) -> Option<Head>
     ensures { (h : Head) → HasRow h.row → h.inputs < 2 ^ 32 → h.outputs < 2 ^ 32 →
         h.functions < 2 ^ 32
@@ -29,7 +29,7 @@ pub(crate) fn head_in(words: &[&[u8]]) -> Option<Head>
     head_of(name, inputs, outputs, functions, controls)
 }
 
-// What the words of a system's line tell that aren't the same in all of them.
+// What the words of a system's line say that aren't the same in all of them.
 fn head_of(
     name: &[u8],
     inputs: &[u8],
@@ -55,7 +55,7 @@ fn head_of(
     })
 }
 
-/// What the words of a function's line tell.
+/// What the words of a function's line say.
 pub(crate) fn function_in(words: &[&[u8]]) -> Option<Function>
     ensures { (needs outputs : List Port) (first second third : List ℕ) → All IsPlaced needs →
         All IsPlaced outputs
@@ -69,7 +69,7 @@ pub(crate) fn function_in(words: &[&[u8]]) -> Option<Function>
     lists_in(lists)
 }
 
-// What the two lists of a function's line tell.
+// What the two lists of a function's line say.
 fn lists_in(lists: &[&[u8]]) -> Option<Function>
     ensures { (needs outputs : List Port) → All IsPlaced needs → All IsPlaced outputs
         → ports_mask needs < 2 ^ 64 → ports_mask outputs < 2 ^ 32
@@ -119,7 +119,7 @@ fn has_word(words: &[&[u8]], word: &[u8]) -> bool
     words.iter().any(|w| is(w, word))
 }
 
-// The set of the ports that a list tells.
+// The set of the ports that a list says.
 fn set_in(words: &[&[u8]]) -> u64
     ensures { (ps : List Port) → All IsPlaced ps →
         map (λ w. w.now) words.now ≡ list_words (map port_word ps)
@@ -131,7 +131,7 @@ fn set_in(words: &[&[u8]]) -> u64
     mask_in(words)
 }
 
-// The set of the ports that the words tell, or the greatest number.
+// The set of the ports that the words say, or the greatest number.
 fn mask_in(words: &[&[u8]]) -> u64
     ensures { (ps : List Port) → All IsPlaced ps → map (λ w. w.now) words.now ≡ map port_word ps
         → ports_mask ps < 2 ^ 64 → result ≡ ports_mask ps }
@@ -143,7 +143,7 @@ fn mask_in(words: &[&[u8]]) -> u64
     mask
 }
 
-// The set of the port that a word tells, or the empty one.
+// The set of the port that a word says, or the empty one.
 fn bit_in(word: &[u8]) -> u64
     ensures { (p : Port) → IsPlaced p → word.now ≡ port_word p → result ≡ 2 ^ ports.bit_of p }
 {

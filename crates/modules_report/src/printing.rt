@@ -14,7 +14,7 @@ use std::fmt::Write;
 
 /// The text of reports, each right for some needs of its outputs: system by system, and then how many there are.
 ///
-/// The only fault is want of memory.
+/// The only error is out of memory.
 pub fn print_report(alloc: Global, r: &[SystemReport]) -> Result<Vec<u8>, Memory>
     requires { All IsReport r.now }
     ensures { IfOk result (λ text. text.items ≡ report_text r.now) }
@@ -27,7 +27,7 @@ pub fn print_report(alloc: Global, r: &[SystemReport]) -> Result<Vec<u8>, Memory
     Ok(out.into_bytes())
 }
 
-/// Appends the line that tells how many systems there are.
+/// Appends the line that says how many systems there are.
 pub(crate) fn push_last_line(out: &mut String, systems: usize) -> Result<(), Memory>
     ensures { OnOk result (string_bytes out.new ≡ string_bytes out.old ++ last_line systems) }
 {

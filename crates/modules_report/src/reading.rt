@@ -25,7 +25,7 @@ use std::alloc::Global;
 /// The one list of reports that has this text.
 ///
 /// Form where no list of reports has it; the line is the first one that can't follow the lines before it in any such
-/// text, and the one after the last where the text only ends too soon. The other fault is want of memory.
+/// text, and the one after the last where the text only ends too soon. The other error is out of memory.
 pub fn read_report(alloc: Global, bytes: &[u8]) -> Result<Vec<SystemReport>, ReportFault>
     ensures text { IfOk result (λ reports. IsTextOf bytes.now reports.items) }
     ensures form { IfErr result (λ fault. OfForm fault (IsFormFault bytes.now)) }
@@ -64,7 +64,7 @@ fn read_systems(alloc: Global, bytes: &[u8]) -> Result<Vec<SystemReport>, Stop>
     Err(Stop::Left(rest.len()))
 }
 
-// What follows the line that ends a text with so many systems, if it stands here.
+// What follows the line that ends a text with so many systems, if it is here.
 fn past_last_line(alloc: Global, text: &[u8], systems: usize) -> Result<Option<&[u8]>, Stop>
     ensures text { IfOk result (λ end. IfSome end (λ next. text.now ≡ last_line systems ++ next.now)) }
     ensures none { IfOk result (λ end. IfNone end ((more : List ℕ) → text.now ≡ last_line systems ++ more →
@@ -76,7 +76,7 @@ fn past_last_line(alloc: Global, text: &[u8], systems: usize) -> Result<Option<&
     Ok(past(text, line.as_bytes()))
 }
 
-// The report on the system whose lines stand here, and what follows them.
+// The report on the system whose lines are here, and what follows them.
 fn read_system(alloc: Global, text: &[u8]) -> Result<(SystemReport, &[u8]), Stop>
     ensures text { IfOk result (λ read. text.now ≡ system_text read.0 ++ read.1.now) }
     ensures report { IfOk result (λ read. IsSystemReport read.0) }
@@ -103,7 +103,7 @@ fn read_system(alloc: Global, text: &[u8]) -> Result<(SystemReport, &[u8]), Stop
     Ok((report, rest))
 }
 
-// What the line of a system that stands here tells, and what follows it.
+// What the line of a system that is here says, and what follows it.
 fn read_head(alloc: Global, text: &[u8]) -> Result<(Head, &[u8]), Stop>
     ensures text { IfOk result (λ read. text.now ≡ head_text read.0 ++ read.1.now) }
     ensures row { IfOk result (λ read. HasRow read.0.row) }
@@ -123,7 +123,7 @@ fn read_head(alloc: Global, text: &[u8]) -> Result<(Head, &[u8]), Stop>
     }
 }
 
-// The functions whose lines stand here, and what follows them.
+// The functions whose lines are here, and what follows them.
 fn read_functions<'a>(
     alloc: Global,
     text: &'a [u8],
@@ -154,7 +154,7 @@ fn read_functions<'a>(
     Ok((functions, rest))
 }
 
-// The function whose line stands here, and what follows it.
+// The function whose line is here, and what follows it.
 fn read_function<'a>(
     alloc: Global,
     text: &'a [u8],

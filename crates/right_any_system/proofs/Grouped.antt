@@ -12,7 +12,7 @@ use Rattle.modules_clusters.specs.NodeGroups.{NodeGroups}
 use Rattle.modules_clusters.proofs.lemmas.Sets.{Rising, rising-different}
 
 module _ (holds : List ℕ) where
-  -- each comes before those behind it
+  -- each comes before those after it
   abbrev InOrder : List ℕ → Type 0
   InOrder [] = ⊤
   InOrder (x ∷ xs) = AllByRecursion (ComesBefore holds x) xs × InOrder xs

@@ -54,7 +54,7 @@ module _ (g : NeedsGraph) (inside : IsGraph g) (none : HasNoCycle g) where
       by (inl below) (inr new) (inl (a, need, missing)) = inr (λ may. missing (may.needs_placed a (needed-edge g b a need)))
       by (inl below) (inr new) (inr full) = inl (stands placed b below new full)
 
-  -- from a node that isn't placed one goes down to a node that may stand next
+  -- from a node that isn't placed one goes down to a node that may come next
   down : (placed : List ℕ) (k b : ℕ) → Within (needed g) k b → b < g.n → (Contains placed b → ⊥) → (c : ℕ) × MayStand g placed c
   down placed zero b within below new = absurd within
   down placed (suc k) b within below new = by (lacks-decided placed b)

@@ -22,7 +22,7 @@ use Rattle.right_claim.proofs.GivenValues.{Apart, apart-inputs, apart-kept, all-
 zero-in : (type : FixType) → InType type (pos 0)
 zero-in type = values_stay_in_type Ground [] type false [] (pos 0) tt
 
--- each element stands somewhere
+-- each element is at some place
 placed : {A : Type 0} (xs : List A) → AllByRecursion (λ x. (i : ℕ) × (slice_get xs i ≡ Some x)) xs
 placed [] = tt
 placed {A} (x ∷ xs) = (

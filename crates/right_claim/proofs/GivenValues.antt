@@ -128,7 +128,7 @@ apart-kept test (p ∷ ps) h = by (test p) (apart-kept test ps h.1)
 
 -- ---- Columns
 
--- the inputs stand in their columns
+-- the inputs are in their columns
 number-at : (a n i : ℕ) (p : Port) (rest : List Port) → slice_get (map Number (range_with_len a n) ++ rest) i ≡ Some p →
     ((i < n) × (p ≡ Number (a + i))) ⊎ ((n ≤ i) × (slice_get rest (i - n) ≡ Some p))
 number-at a zero i p rest at = inr (omega arith, ap (slice_get rest) (let same : i - 0 ≡ i = omega arith in same) ∙ at)
@@ -167,7 +167,7 @@ found p (g ∷ gs) = cond (same_port p g.input) g.value (found p gs)
 abbrev pub AreFound : List Given → Type 0
 AreFound given = AllByRecursion (λ (e : Given). found e.input given ≡ e.value) given
 
--- what is found behind values for other inputs
+-- what is found after values for other inputs
 passed-over : (p : Port) (e : Given) (rest : List Given) → same_port p e.input ≡ false → found p (e ∷ rest) ≡ found p rest
 passed-over p e rest other = ap (λ r. cond r e.value (found p rest)) other
 
@@ -190,7 +190,7 @@ new-found (p ∷ ps) (v ∷ vs) rest apart = (
       (new-found ps vs rest apart.1) (others-apart p ps vs apart.0),
 )
 
--- an earlier value is found behind new ones that are like it
+-- an earlier value is found after new ones that are like it
 pub old-found : (e : Given) (new earlier : List Given) →
     AllByRecursion (λ (f : Given). e.input ≡ f.input → e.value ≡ f.value) new → found e.input earlier ≡ e.value →
     found e.input (new ++ earlier) ≡ e.value

@@ -1,5 +1,5 @@
--- The code of a child that passes its input on keeps the rules and limits of C by itself, behind whatever prelude. One whose group
--- stands behind its function is refused, and one with too long a chain of calls.
+-- The code of a child that passes its input on keeps the rules and limits of C by itself, after whatever prelude. One whose group
+-- is after its function is refused, and one with too long a chain of calls.
 use Rattle.std.specs.Prelude.{◌≡◌, refl, ℕ, ◌≤◌, List, [], ◌∷◌, ◌++◌, take}
 use Rattle.std.specs.Fmt.{digits}
 use Rattle.std.proofs.Common.{sym, subst, arith, lit<, lit≤, true≢false}
@@ -14,7 +14,7 @@ use Rattle.right_claim.specs.RefusedAlone.{late_group, long_chain}
 
 -- ---- The right code
 
--- names are distinct or apart behind whatever functions with the names of the prelude
+-- names are distinct or apart after whatever functions with the names of the prelude
 distinct_of : (later : List (List ℕ)) (ps : List PureTree) → pure_names ps ≡ names → AreDistinct (names ++ later) →
     AreDistinct (pure_names ps ++ later)
 distinct_of later ps named = subst (λ ns. AreDistinct (ns ++ later)) (sym named)
@@ -136,7 +136,7 @@ child_has_short_chains = (lit≤ tt, (lit≤ tt, (lit≤ tt, (lit≤ tt, (lit≤
 
 -- ---- The others
 
--- the function, which stands first, calls what no procedure before it is
+-- the function, which comes first, calls what no procedure before it is
 group_is_late : (pures : List PureTree) → IsPrelude pures → IsLawfulAlone inner_local late_group → ⊥
 group_is_late pures prelude h = cc (h.procedures pures prelude).0.body.0.1
 

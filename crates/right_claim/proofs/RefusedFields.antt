@@ -21,7 +21,7 @@ other_memory : Holds (held_cells (pos 0) (pos 3) (pos 1) (pos 2) (pos 0)) → �
 unfolding digits
 other_memory h = values-apart 3 4 refl h.memories.0
 
--- one sample was taken: were it two, the oldest would be the 9 that stood in the ring before the start
+-- one sample was taken: were it two, the oldest would be the 9 that was in the ring before the start
 other_ring : Holds (held_cells (pos 0) (pos 4) (pos 2) (pos 2) (pos 0)) → ⊥
 unfolding digits
 other_ring h = by h.rings.0.ring h.rings.0.items h.rings.0.place h.rings.0.taken h.rings.0.holds.holds

@@ -16,7 +16,7 @@ use Rattle.right_claim.specs.SharedSamples.{shared_program}
 
 -- ---- Fields of a form, spelled out
 
--- the fields behind the first
+-- the fields after the first
 abbrev behind_first : Cells → Cells
 behind_first no_cells = no_cells
 behind_first (more_cells c cells) = cells

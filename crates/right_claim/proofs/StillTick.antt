@@ -14,7 +14,7 @@ use Rattle.emit_shape.specs.RootCode.{RootStep, moves_on, tick_steps, Does, is_l
 use Rattle.right_claim.specs.SharedSamples.{still_tick, leaves_tick}
 use Rattle.right_claim.proofs.ShapeLines.{two-orders}
 
--- what stands beside the end of a list is the end of the other
+-- what is beside the end of a list is the end of the other
 end-beside : {A B : Type 0} (P : A → B → Type 0) (xs zs : List A) (ys : List B) → AllZip P (xs ++ zs) ys →
     (front rest : List B) × (ys ≡ front ++ rest) × AllZip P zs rest
 end-beside P [] zs ys h = ([], ys, refl, h)

@@ -149,7 +149,7 @@ child-runs = record {
 
 -- ---- No loop
 
--- what a row needs stands before it
+-- what a row needs comes before it
 one-before : (a b c : ℕ) → b < a → Contains (b ∷ []) c → c < a
 one-before a b c before (zero, below, is) = subst (λ x. x < a) is before
 one-before a b c before (suc k, below, is) = absurd (omega arith)

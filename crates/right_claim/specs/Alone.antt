@@ -44,7 +44,7 @@ bare_procedures local =
     flat_map (λ e. map (bare_procedure e.0) (public_heads e.1.header))
     (enumerate_from 0 local.children)
 
--- the system's own procedures stand behind those of bare children, whose outputs stay
+-- the system's own procedures are after those of bare children, whose outputs stay
 abbrev pub behind_bare : LocalSystem → SystemTree → Relocation
 behind_bare local code =
     behind_children (length code.procedures) (length (bare_procedures local)) (λ f o. o)
@@ -64,7 +64,7 @@ abbrev pub CallsWithin : LocalSystem → SystemTree → ProcedureTree → Type 0
 CallsWithin local code q =
     AllByRecursion (λ c. c.procedure < length (callable local code)) (calls_in q.body)
 
--- behind whatever functions of the prelude, that is lawful and within the limits, but that it has
+-- after whatever functions of the prelude, that is lawful and within the limits, but that it has
 -- no root
 pub record IsLawfulAlone (local : LocalSystem) (code : SystemTree) : Type 0 where
   pub names : (pures : List PureTree) → IsPrelude pures →

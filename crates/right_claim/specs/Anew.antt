@@ -43,14 +43,14 @@ pub record AreForgotten (p : ProgramTree) (d : Diagram) (n : Option ℕ)
   pub trigger : is_triggered (system_control d.rows n) ≡ true →
       number_in p n after trigger_name ≡ pos 0
 
--- behind a start: values too, and no function counts as called
+-- after a start: values too, and no function counts as called
 pub record AreStarted (p : ProgramTree) (d : Diagram) (n : Option ℕ) (after : Cells) : Type 0 where
   pub forgotten : AreForgotten p d n after
   pub values : AllByRecursion (λ b. number_in p n after (value_name b) ≡ start_of d b)
       (valued_rows d n)
   pub counters : AllByRecursion (λ f. number_in p n after f.name ≡ pos 0) (counter_fields p n)
 
--- behind a reset: each value is as it was, and each counter is 0 or as it was
+-- after a reset: each value is as it was, and each counter is 0 or as it was
 pub record AreReset (p : ProgramTree) (d : Diagram) (n : Option ℕ)
     (before after : Cells) : Type 0 where
   pub forgotten : AreForgotten p d n after
@@ -78,7 +78,7 @@ FromAnyFields p structure procedure P =
     OnDone ((routine_at (program_routines p) procedure).run [] before 0)
     (λ a. (a.steps ≤ field_count (forms_at p structure)) × P before a.cells)
 
--- A system is started, and reset, from any fields: behind the start all fields of it and of the
+-- A system is started, and reset, from any fields: after the start all fields of it and of the
 -- systems inside are as before the first tick, and each lawful script is answered by its run.
 pub record RenewsAll (p : ProgramTree) (d : Diagram) (hyper : ℕ) (s : Option ℕ) : Type 0 where
   pub starts : FromAnyFields p (struct_place p s) (procedure_place p (start_name s))
@@ -87,7 +87,7 @@ pub record RenewsAll (p : ProgramTree) (d : Diagram) (hyper : ℕ) (s : Option �
   pub resets : FromAnyFields p (struct_place p s) (procedure_place p (reset_name s))
       (HoldsInside p d s (AreReset p d))
 
--- The fields of `root` behind `root_start`: the tick is 0, `top` is started, outputs are as they
+-- The fields of `root` after `root_start`: the tick is 0, `top` is started, outputs are as they
 -- were; each trace is answered by its run, and in each system each lawful script.
 pub record AreRestarted (p : ProgramTree) (d : Diagram) (hyper : ℕ)
     (before after : Cells) : Type 0 where

@@ -8,7 +8,7 @@ use Rattle.modules_profile.specs.declared.Function.{Function}
 use Rattle.diagram_meaning.specs.Traces.{IsTrace}
 use Rattle.right_claim.specs.Scripts.{Call, TickSoFar, nothing_yet, CanFollow, tick_after, IsLawfulScript, Fits}
 
--- the tick so far behind a script
+-- the tick so far after a script
 abbrev pub tick_behind : Diagram → Option ℕ → List Function → TickSoFar → List Call → TickSoFar
 tick_behind d s functions tick [] = tick
 tick_behind d s functions tick (c ∷ cs) =

@@ -58,8 +58,8 @@ call_in_tick p hyper path t name values cells =
 
 -- The rest of a script from tick t on, over a run of the system s, on its instance at a path, from
 -- these fields, with the functions called, the calls and the stores of the tick so far: no call is
--- stuck; behind each `out` the outputs of all functions called in the tick have the run's values in
--- their fields; and behind each `update` the tick had its calls and stores, and each field holds
+-- stuck; after each `out` the outputs of all functions called in the tick have the run's values in
+-- their fields; and after each `update` the tick had its calls and stores, and each field holds
 -- what the run has.
 module _ (p : ProgramTree) (d : Diagram) (hyper : ℕ) (path : List ℕ) (s : Option ℕ)
     (functions : List Function) (xs : List (List ℤ)) (run : Run) where

@@ -44,7 +44,7 @@ pub record HoldsRing (p : ProgramTree) (d : Diagram) (n : Option ℕ) (cells : C
   pub taken : number_in p n cells (taken_name b) ≡ pos ring.taken
   pub holds : IsRing (delay_length (op_at d b)) (start_of d b) ring memory
 
--- An instance of the system n behind a tick with the values v, where the memories m and the
+-- An instance of the system n after a tick with the values v, where the memories m and the
 -- triggers g are those of the next tick: the field of each row with a value holds its value, those
 -- of memories and of the trigger what these remember, and no function counts as called.
 pub record HoldsTick (p : ProgramTree) (d : Diagram) (v : List ℤ) (m : List (List ℤ))
@@ -58,7 +58,7 @@ pub record HoldsTick (p : ProgramTree) (d : Diagram) (v : List ℤ) (m : List (L
       number_in p n cells trigger_name ≡ memory_number (system_trigger g n)
   pub counters : AllByRecursion (λ f. number_in p n cells f.name ≡ pos 0) (counter_fields p n)
 
--- In an instance of the system s behind tick t of its run: so it is with the instance, and with
+-- In an instance of the system s after tick t of its run: so it is with the instance, and with
 -- that of each system inside.
 pub record HoldsRun (p : ProgramTree) (d : Diagram) (s : Option ℕ) (run : Run) (t : ℕ)
     (cells : Cells) : Type 0 where

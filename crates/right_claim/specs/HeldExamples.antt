@@ -90,7 +90,7 @@ held_program = record {
 }
 
 -- these after the second tick: the ring's first item is the 4 that it took, its second is whatever
--- stood there before the start
+-- was there before the start
 abbrev pub held_cells : (delayed remembered taken memory_of_trigger count : ℤ) → Cells
 held_cells delayed remembered taken memory_of_trigger count =
     more_cells (number (pos 4))

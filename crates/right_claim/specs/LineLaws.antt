@@ -18,7 +18,7 @@ use Rattle.right_claim.specs.Right.{GivesOutputs, StaysInBound, AnswersAnyOrder,
 abbrev pub IsBlindToLines : (ProgramTree → Type 0) → Type 0
 IsBlindToLines P = (p q : ProgramTree) → without_lines p ≡ without_lines q → P p → P q
 
--- the rows over a trace, but for the place where it is stuck, and the answers to scripts
+-- the rows over a trace, except for the place where it is stuck, and the answers to scripts
 pub record RowsMeanNoLines : Type 0 where
   pub outputs : (d : Diagram) (xs : List (List ℤ)) → IsBlindToLines (λ p. GivesOutputs p d xs)
   pub bounded : (d : Diagram) (xs : List (List ℤ)) → IsBlindToLines (λ p. StaysInBound p d xs)

@@ -1,5 +1,5 @@
--- Codes that differ in one thing from that of a child that passes its input on: its group stands
--- behind the function that calls it, and calls on `s` go through four procedures.
+-- Codes that differ in one thing from that of a child that passes its input on: its group is
+-- after the function that calls it, and calls on `s` go through four procedures.
 use Rattle.std.specs.Prelude.{ℕ, true, List, [], ◌∷◌, ◌++◌, drop, codes}
 use Rattle.c_syntax.specs.declared.Leaf.TheVariants.{Param, Own}
 use Rattle.c_syntax.specs.declared.Target.TheVariants.{Own as OnSelf}

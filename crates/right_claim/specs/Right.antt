@@ -50,7 +50,7 @@ pub record RunsRight (p : ProgramTree) (d : Diagram) : Type 0 where
   pub outputs : (xs : List (List ℤ)) → IsTrace d None xs → GivesOutputs p d xs
   -- it is never stuck, and each tick stays within the bound on steps
   pub bounded : (xs : List (List ℤ)) → IsTrace d None xs → StaysInBound p d xs
-  -- in each tick each function of an active system is called once, and then its update; and behind
+  -- in each tick each function of an active system is called once, and then its update; and after
   -- it each field inside holds what the run has
   pub ticks : OnDone (start_run p) (λ started. TakesTraces p d started.cells)
 
@@ -62,7 +62,7 @@ pub record IsCodeFor (p : ProgramTree) (d : Diagram) (delays : List Bool) (hyper
   -- each system's functions take exactly what its outputs need, and no interface that does so has
   -- fewer
   pub least : AllByRecursion (HasLeastInterface p d) (systems d.rows)
-  -- each system stands in a struct and procedures of its own
+  -- each system has a struct and procedures of its own
   pub shape : HasShape p d delays hyper
   -- each system answers its calls in any lawful order
   pub any_order : AllByRecursion (AnswersAnyOrder p d hyper) (systems d.rows)

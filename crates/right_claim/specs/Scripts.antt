@@ -104,7 +104,7 @@ module _ (d : Diagram) (s : Option ℕ) (functions : List Function) where
   AgreesFrom t xs (c ∷ cs) =
       HasGiven (slice_index_or xs t []) (given_by c) × AgreesFrom (number_after t c) xs cs
 
-  -- a trace fits a script: a row for each tick in which a call stands, with every value given
+  -- a trace fits a script: a row for each tick in which there is a call, with every value given
   pub record Fits (xs : List (List ℤ)) (script : List Call) : Type 0 where
     pub one_row_each : length xs ≡ tick_count script
     pub agrees : AgreesFrom 0 xs script

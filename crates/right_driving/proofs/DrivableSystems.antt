@@ -53,7 +53,7 @@ module _ (headers : HeaderIsOfOwnRows) (profiles : ProfilesAreOne) (w : Driven) 
   head-there : (head : Head) → Contains (public_heads header) head → HasHead w.program structure head
   head-there = has-head headers profiles w.program w.diagram w.delays w.system w.needs w.are_needs lawful shape-there
 
-  -- the heads behind those of the functions
+  -- the heads after those of the functions
   abbrev others : List Head
   others = update_head header ∷ start_head header ∷ reset_head header ∷ []
 

@@ -1,4 +1,4 @@
--- Lists: what holds of each element, and where elements with different names stand.
+-- Lists: what holds of each element, and where elements with different names are.
 use Rattle.std.specs.Prelude.{◌≡◌, ℕ, suc, ◌+◌, List, [], ◌∷◌, map, length, slice_get, Contains, Some, bytes_eq, refl}
 use Rattle.std.specs.List.{AllByRecursion, AllZip, position_from}
 use Rattle.std.proofs.Common.{sym, ap, subst, ◌∙◌, arith, inl, inr}

@@ -1,4 +1,4 @@
--- The public procedures of a system stand among those of the program, with the heads that the system's header says.
+-- The public procedures of a system are among those of the program, with the heads that the system's header says.
 use Rattle.std.specs.Prelude.{◌≡◌, ℕ, not, ◌==◌, Bool, List, map, filter, slice_get, Contains, Option, Some, refl}
 use Rattle.std.proofs.Common.{sym, ap, subst, ◌∙◌}
 use Rattle.std.proofs.lemmas.Bool.{eqb-true}

@@ -49,7 +49,7 @@ module _ (rows : List Row) where
     path-inner p = ap (λ path. field_position (root_fields p) (system_name None) ∷ path)
         (down-to-inner (λ g. place_in p (row_at rows g).owner (child_name g)))
 
--- what stands behind one field more
+-- what comes after one field more
 pub one-behind : (p : ProgramTree) (from : Option StructInstance) (fields : List (List ℕ)) (field : List ℕ) →
     instance_behind p from (fields ++ field ∷ []) ≡ option_and_then (child_named p field) (instance_behind p from fields)
 one-behind p from [] field = refl

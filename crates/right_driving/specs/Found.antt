@@ -41,7 +41,7 @@ pub record IsFound (p : ProgramTree) (rows : List Row) (s : Option ℕ)
 abbrev pub way_to : List Row → Option ℕ → List (List ℕ)
 way_to rows s = system_name None ∷ map child_name (reverse (enclosing rows None s))
 
--- the instance behind these fields, one inside the other
+-- the instance reached through these fields, one inside the other
 abbrev pub instance_behind : ProgramTree → Option StructInstance → List (List ℕ) →
     Option StructInstance
 instance_behind p from [] = from

@@ -16,7 +16,7 @@ use Rattle.right_fused.proofs.FusedReads.{simplified_index, indices-left, all-in
 
 -- ---- What statements have by their parts
 
--- all stand at one level
+-- all are at one level
 abbrev level : ℕ → ℕ
 level i = i
 

@@ -13,11 +13,11 @@ use Rattle.right_generated.proofs.ModelPlans.{block_plan, line_plan, inport_plan
 abbrev pub plan_text : Plan → List ℕ
 plan_text p = text_of (plan_lines p)
 
--- what is put in front of a tree has this text
+-- what is placed in front of a tree has this text
 record Writes (front : Plan → Plan) (piece : List ℕ) : Type 0 where
   text : (rest : Plan) → plan_text (front rest) ≡ piece ++ plan_text rest
 
--- one behind the other
+-- one after the other
 both : {f g : Plan → Plan} {a b : List ℕ} → Writes f a → Writes g b → Writes (λ rest. f (g rest)) (a ++ b)
 both {f} {g} {a} {b} p q = record {
   text = λ rest. p.text (g rest) ∙ ap (λ t. a ++ t) (q.text rest) ∙ sym (append_assoc a b (plan_text rest));
@@ -164,7 +164,7 @@ root_piece start size =
     (all_entering_piece 1 size)).text (last_plan size)
     ∙ ap (λ t. root_front start size ++ t) (last_piece size)
 
--- pieces of a front, behind a head
+-- pieces of a front, after a head
 behind : (h a b c d e f : List ℕ) → h ++ (((((a ++ b) ++ c) ++ d) ++ e) ++ f) ≡ (((((h ++ a) ++ b) ++ c) ++ d) ++ e) ++ f
 behind h a b c d e f =
     sym (append_assoc h ((((a ++ b) ++ c) ++ d) ++ e) f)

@@ -105,7 +105,7 @@ read_none o h b e own = by (block_read [] o) h e
     by None h e = absurd (true≢false (sym (ap is_some e)))
     by (Some r) h e = ap (λ (b : Block). inport_number (kind_of b)) (sym (some_same r b e)) ∙ h
 
--- ---- The root's blocks behind its input
+-- ---- The root's blocks after its input
 
 -- no block of the tree, in the root, is an Inport
 abbrev HasNoInputs : Plan → Type 0
@@ -171,7 +171,7 @@ input_block line =
       text = record { name = codes "In1"; line = line; body = typed (inport 1) (known_type (Fixed (integer_format true 32))) untimed };
     }
 
--- the blocks behind it
+-- the blocks after it
 abbrev pub further_blocks : (start size : ℕ) → List Block
 further_blocks start size = filter_map (block_read [])
     (outlines_in 1 None 0 root_peers (plan_items 10 (groups_plan start 1 size (after_groups_plan size))))

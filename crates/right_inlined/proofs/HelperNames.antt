@@ -13,7 +13,7 @@ use Rattle.right_refined.proofs.lemmas.PlainNames.{is_plain, system-plain}
 plain-other : (b : ℕ) → is_plain b ≡ true → b ≡ 95 → ⊥
 plain-other b plain same = let wrong : false ≡ true = ap is_plain (sym same) ∙ plain in cc
 
--- what differs behind the first line below differs
+-- what differs after the first line below differs
 behind-line : (s c a b : List ℕ) → list_all is_plain s ≡ true → list_all is_plain c ≡ true → bytes_eq a b ≡ false →
     bytes_eq (s ++ 95 ∷ a) (c ++ 95 ∷ b) ≡ false
 behind-line [] [] a b first other apart = apart

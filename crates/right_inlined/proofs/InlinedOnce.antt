@@ -1,4 +1,4 @@
--- In procedures in which helpers' bodies stand each value is stored and each procedure called as often as before, and no less is used.
+-- In procedures that contain helpers' bodies each value is stored and each procedure called as often as before, and no less is used.
 use Rattle.std.specs.Prelude.{◌≡◌, ℕ, zero, suc, ◌+◌, ◌<◌, ◌≤◌, ◌==◌, not, ◌||◌, MatchBool, Bool, true, false, if◌then◌else◌, cond, nat_lt, List, [], ◌∷◌, ◌++◌, filter, flat_map, sum_by, count_by, length, Contains, Some, slice_get, bytes_eq, ⊤}
 use Rattle.std.specs.List.{AllByRecursion, list_any, range_with_len}
 use Rattle.std.proofs.Common.{refl, sym, ap, subst, ◌∙◌, arith, inl, inr}

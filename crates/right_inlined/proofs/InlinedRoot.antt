@@ -1,4 +1,4 @@
--- The root's struct and procedures stay as they are, but for the positions of what is called.
+-- The root's struct and procedures stay as they are, except for the positions of what is called.
 use Rattle.std.specs.Prelude.{◌≡◌, ℕ, suc, ◌+◌, ◌<◌, ◌==◌, not, Bool, true, false, if◌then◌else◌, cond, List, [], ◌∷◌, ◌++◌, map, filter, length, Contains, IsPermutation, None, Some, slice_get}
 use Rattle.std.specs.List.{AllByRecursion, AllZip}
 use Rattle.std.proofs.Common.{refl, sym, ap, subst, ◌∙◌, arith, inl, inr}

@@ -1,4 +1,4 @@
--- What procedures store, themselves or through private ones, where helpers' bodies stand in them.
+-- What procedures store, themselves or through private ones, where helpers' bodies are in them.
 use Rattle.std.specs.Prelude.{◌≡◌, ℕ, zero, suc, ◌+◌, ◌<◌, Bool, true, false, if◌then◌else◌, cond, nat_lt, List, [], ◌∷◌, ◌++◌, map, flat_map, count_by, length, Some, slice_get, slice_index_or, bytes_eq}
 use Rattle.std.specs.List.{AllByRecursion}
 use Rattle.std.proofs.Common.{refl, sym, ap, ◌∙◌, arith}

@@ -21,7 +21,7 @@ use Rattle.right_fused.proofs.lemmas.Lists.{each-map, map-each, zip-map}
 use Rattle.right_inlined.proofs.MovedSites.{expr-leaves, cond-leaves, moved_store, moved_index, moved_call, stores-moved, tests-moved, calls-moved, indices-moved}
 use Rattle.right_inlined.proofs.LawfulSites.{IsInside, ExprInside, CondInside, StoreInside, IndexInside, CallInside, stores-inside, tests-inside, calls-inside, indices-inside}
 
--- the same names, but for those of procedures
+-- the same names, except for those of procedures
 abbrev pub renamed : CodeNames → (ℕ → Head) → CodeNames
 renamed n callee = record { own = n.own; inner = n.inner; struct = n.struct; callee = callee }
 
@@ -39,7 +39,7 @@ pub record KeepsPart (n : CodeNames) (local : LocalSystem) (counters : List (Lis
   pub tests : AllByRecursion
       (λ test. AllByRecursion (Contains (test_reads counters)) (named_leaves n x.params (cond_leaves test))) (tests_in ss)
 
--- what statements have, one row behind another
+-- what statements have, one row after another
 module _ {X : Type 0} (one : StmtTree → List X) (all : StmtTrees → List X) (nothing : all no_stmts ≡ [])
     (next : (s : StmtTree) (ss : StmtTrees) → all (more_stmts s ss) ≡ one s ++ all ss) where
   pub of-append : (ss later : StmtTrees) → all (stmts_append ss later) ≡ all ss ++ all later

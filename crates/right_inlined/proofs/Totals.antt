@@ -204,7 +204,7 @@ module _ (p : ProgramTree) where
       added : ProcedureTree → ℕ
       added x = sum_by weight (helpers_of x)
 
-      -- what doesn't stay is no procedure in which bodies stand
+      -- what doesn't stay is no procedure that contains bodies
       none-added : (k : ℕ) (x : ProcedureTree) → slice_get p.procedures k ≡ Some x → stays p k ≡ false → added x ≡ 0
       none-added k x there dropped =
           ap (λ b. sum_by weight (if b then helpers_in p x.body else []))

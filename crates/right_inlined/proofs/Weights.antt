@@ -68,7 +68,7 @@ same-sums f g [] h = refl
 same-sums f g (x ∷ xs) h =
     sum_by-cons f x xs ∙ (λ i. h.0 i + same-sums f g xs h.1 i) ∙ sym (sum_by-cons g x xs)
 
--- the same weights, but for those of calls
+-- the same weights, except for those of calls
 abbrev pub with_calls : Weights → (ℕ → Target → ℕ) → Weights
 with_calls w calls = record { store = w.store; call = calls; leaf = w.leaf }
 

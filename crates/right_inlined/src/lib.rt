@@ -1,4 +1,4 @@
-//! Code for a diagram stays code for it where the bodies of helpers stand in place of their calls.
+//! Code for a diagram stays code for it where the bodies of helpers are in place of their calls.
 #![tactic(auto)]
 
 mod laws;

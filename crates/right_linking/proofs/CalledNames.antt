@@ -36,7 +36,7 @@ module _ (a : Parts) (v : Views a) (place : ℕ) (s : Option ℕ) (stands : slic
   abbrev pub structs : List StructTree
   structs = (alone local code a.pures).structs
 
-  -- what a procedure's body reaches behind these
+  -- what a procedure's body reaches after these
   abbrev pub reach_behind : List ProcedureTree → ProcedureTree → Reach
   reach_behind before q = record {
     pures = a.pures;
@@ -47,7 +47,7 @@ module _ (a : Parts) (v : Views a) (place : ℕ) (s : Option ℕ) (stands : slic
     of = bare.of;
   }
 
-  -- each is lawful behind those of its children and own earlier ones
+  -- each is lawful after those of its children and own earlier ones
   pub own-lawful : (j : ℕ) (q : ProcedureTree) → slice_get code.procedures j ≡ Some q →
       (before : List ProcedureTree) × (length before ≡ length (bare_procedures local) + j)
       × IsLawfulProcedure a.pures structs before (moved_procedure bare q)

@@ -49,7 +49,7 @@ module _ (r : ResolvedTree) where
   found (t ∷ ss) [] all other s = other
   found (t ∷ ss) (c ∷ codes) all other s = if same_system t s then coded t c all.0 else found ss codes all.1 other s
 
-  -- what is found of a system that stands at a place
+  -- what is found of a system at a place
   record IsFound (codes : List SystemTree) (place : ℕ) (s : Option ℕ) (c : CodedSystem) : Type 0 where
     pub code : SystemTree
     pub stands : slice_get codes place ≡ Some code

@@ -1,4 +1,4 @@
--- A field of a system's struct stands where its slot does among the slots.
+-- A field of a system's struct is where its slot is among the slots.
 use Rattle.std.specs.Prelude.{◌≡◌, ℕ, ◌+◌, ◌<◌, List, [], ◌∷◌, ◌++◌, map, length, slice_get, Option, Some, unwrap_or, bytes_eq, refl}
 use Rattle.std.specs.List.{position_from}
 use Rattle.std.proofs.Common.{sym, ap, subst, ◌∙◌, arith}

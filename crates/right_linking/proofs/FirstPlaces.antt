@@ -31,7 +31,7 @@ append-append (x ∷ xs) ys zs = ap (λ more. x ∷ more) (append-append xs ys z
 -- ---- Searches
 
 module _ {A : Type 0} (test : A → Bool) where
-  -- the first that passes stands there
+  -- the first that passes is there
   abbrev pub IsFirst : List A → ℕ → Type 0
   IsFirst [] j = ⊥
   IsFirst (x ∷ xs) zero = test x ≡ true
@@ -88,7 +88,7 @@ module _ {A : Type 0} (test : A → Bool) where
         subst (IsFirst (g m ∷ (map g (down m) ++ rest))) same first
   ]
 
--- what stands there
+-- what is there
 pub at-down : {A : Type 0} (g : ℕ → A) (rest : List A) (d : A) (n k : ℕ) → k < n →
     slice_index_or (map g (down n) ++ rest) (n - (k + 1)) d ≡ g k
 at-down g rest d zero k below = absurd (omega arith)

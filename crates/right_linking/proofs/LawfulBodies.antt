@@ -94,7 +94,7 @@ module _ (m : Relocation) (reach : Reach) where
 
 -- ---- Procedures at their places
 
--- the one at a place is lawful behind those before it
+-- the one at a place is lawful after those before it
 pub lawful-at : (pures : List PureTree) (structs : List StructTree) (earlier qs : List ProcedureTree) (i : ℕ) (q : ProcedureTree) →
     AreProcedures pures structs earlier qs → slice_get qs i ≡ Some q →
     (before : List ProcedureTree) × (length before ≡ length earlier + i) × IsLawfulProcedure pures structs before q

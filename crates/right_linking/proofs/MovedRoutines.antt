@@ -1,4 +1,4 @@
--- The procedures of a system do the same in the program and behind those of its children, where what they call and read does.
+-- The procedures of a system do the same in the program and after those of its children, where what they call and read does.
 use Rattle.std.specs.Prelude.{◌≡◌, ◌⊎◌, ℕ, zero, suc, ◌+◌, ◌-◌, ◌<◌, ◌≤◌, if◌then◌else◌, List, [], ◌∷◌, ◌++◌, map, take, length, slice_get, Option, Some, unwrap_or, refl}
 use Rattle.std.proofs.Common.{sym, ap, ap₂, ◌∙◌, arith, inl, inr}
 use Rattle.std.proofs.Math.Path.{fun_ext}
@@ -120,7 +120,7 @@ module _ (agree : MovedCodeAgrees) (order : ProceduresStandInOrder) (places : Sy
   abbrev routines : List Routine
   routines = system_routines a.pures (v.at s).slots offers (v.at s).code numbers
 
-  -- the procedures of the program before own procedure j, and those behind the children's
+  -- the procedures of the program before own procedure j, and those after the children's
   abbrev before : ℕ → List Routine
   before j = routines_of (program_of a).structs functions [] (take (first_procedure a.codes place + j) (program_of a).procedures)
 

@@ -1,4 +1,4 @@
--- A system's code by its name: where it stands among the codes, and where its public procedures stand in the program.
+-- A system's code by its name: where it is among the codes, and where its public procedures are in the program.
 use Rattle.std.specs.Prelude.{◌≡◌, ℕ, zero, suc, ◌+◌, ◌<◌, ◌≤◌, ◌⊎◌, Bool, true, false, not, cond, ◌||◌, MatchBool, List, [], ◌∷◌, ◌++◌, map, filter, drop, length, sum_by, slice_get, Contains, Option, Some, unwrap_or, codes as text, decimal, bytes_eq, refl, ⊤}
 use Rattle.std.specs.List.{list_any, prefix_len, range_with_len}
 use Rattle.std.proofs.Common.{sym, ap, ap₂, subst, ◌∙◌, arith, inl, inr, true≢false}
@@ -66,7 +66,7 @@ pub any-false : {A : Type 0} (test : A → Bool) (xs : List A) → ((x : A) → 
 any-false test [] fails = refl
 any-false test (y ∷ ys) fails = ap₂ (λ s t. s || t) (fails y (in-first y ys)) (any-false test ys (λ x has. fails x (in-rest y x ys has)))
 
--- what stands behind a part of a list is no more than what stands behind an earlier one
+-- what comes after a part of a list is no more than what comes after an earlier one
 sum-later : {A : Type 0} (w : A → ℕ) (xs : List A) (k i : ℕ) (x : A) → slice_get xs i ≡ Some x → k ≤ i →
     sum_by w (drop (suc i) xs) + w x ≤ sum_by w (drop k xs)
 sum-later w [] k i x at below = absurd (let wrong : ⊥ = cc at in wrong)
@@ -91,7 +91,7 @@ named_publics name n =
     map (λ j. name ++ text "_out" ++ decimal j) (range_with_len 1 n)
     ++ (name ++ text "_update") ∷ (name ++ text "_start") ∷ (name ++ text "_reset") ∷ []
 
--- the letter behind the line
+-- the letter after the line
 abbrev letter : List ℕ → ℕ
 letter [] = 0
 letter (b ∷ []) = 0
@@ -113,7 +113,7 @@ module _ (a : Parts) (v : Views a) (place : ℕ) (s : Option ℕ) (stands : slic
   abbrev count : ℕ
   count = length (header_functions header)
 
-  -- the heads behind those of functions
+  -- the heads after those of functions
   abbrev rest : List Head
   rest = update_head header ∷ start_head header ∷ reset_head header ∷ []
 
@@ -257,7 +257,7 @@ module _ (a : Parts) (v : Views a) (place : ℕ) (s : Option ℕ) (stands : slic
               (in-map (λ (z : ProcedureTree). z.name) code.procedures q (in-at code.procedures j q at))),
         )
 
-    -- the public procedures stand before those of each system around
+    -- the public procedures come before those of each system around
     pub head-before : (head : Head) → Contains (public_heads header) head → (outer : ℕ) → outer < place →
         place_of head < first_procedure a.codes outer
     head-before head has outer less =

@@ -1,4 +1,4 @@
--- What the children of a system offer stands in the program before its own procedures, where its code goes to.
+-- What the children of a system offer comes in the program before its own procedures, where its code goes to.
 use Rattle.std.specs.Prelude.{◌≡◌, ℕ, ◌<◌, ◌≤◌, List, [], ◌∷◌, ◌++◌, map, flat_map, length, slice_get, slice_index, Contains, Option, Some, refl}
 use Rattle.std.specs.List.{range_with_len}
 use Rattle.std.proofs.Common.{sym, ap, ap₂, subst, ◌∙◌, arith, inl, inr}
@@ -95,7 +95,7 @@ module _ (a : Parts) (v : Views a) (place : ℕ) (s : Option ℕ) (stands : slic
   pub routines-long : length (children_routines (child_offers a v s)) ≡ length heads
   routines-long = ap (λ (rs : List Routine). length rs) routines-are ∙ mapped-length routine_of heads
 
-  -- ---- Where they stand
+  -- ---- Where they are
 
   child-names-are : child_names (code_at a.codes place) ≡ map (λ (u : ChildUse). system_name u.header.row) children
   child-names-are =

@@ -1,4 +1,4 @@
--- The outputs of children that a system reads stand in the program where they are offered.
+-- The outputs of children that a system reads are in the program where they are offered.
 use Rattle.std.specs.Prelude.{◌≡◌, ℕ, ◌+◌, true, List, [], ◌∷◌, map, length, slice_get, slice_index, slice_index_or, Contains, Option, Some, refl}
 use Rattle.std.specs.List.{AllZip}
 use Rattle.std.specs.Option.{option_map_or}

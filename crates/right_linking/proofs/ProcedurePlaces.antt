@@ -1,4 +1,4 @@
--- The procedures of a system in a program: each stands behind the first of them as in its code, and takes what the header says.
+-- The procedures of a system in a program: each comes after the first of them as in its code, and takes what the header says.
 use Rattle.std.specs.Prelude.{◌≡◌, ℕ, zero, suc, ◌+◌, ◌-◌, not, List, [], ◌∷◌, ◌++◌, map, flat_map, filter, length, slice_get, slice_index_or, Contains, Option, Some, unwrap_or, bytes_eq, refl}
 use Rattle.std.specs.List.{AllZip, position_from, range_with_len}
 use Rattle.std.proofs.Common.{sym, ap, subst, ◌∙◌, arith}
@@ -58,7 +58,7 @@ module _ (a : Parts) (v : Views a) (place : ℕ) (s : Option ℕ) (stands : slic
   known : IsCodedAs a place s (v.at s)
   known = v.each place s stands
 
-  -- an own procedure is moved to its place behind the first of them
+  -- an own procedure is moved to its place after the first of them
   pub own-procedure : (j : ℕ) (q : ProcedureTree) → slice_get (v.at s).code.procedures j ≡ Some q →
       slice_get (program_of a).procedures (first_procedure a.codes place + j) ≡ Some (moved_procedure (relocation_of a.codes place) q)
   own-procedure j q at =

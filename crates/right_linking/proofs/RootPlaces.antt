@@ -1,4 +1,4 @@
--- The root's struct stands behind those of the systems, and its procedures behind theirs.
+-- The root's struct is after those of the systems, and its procedures after theirs.
 use Rattle.std.specs.Prelude.{◌≡◌, ℕ, zero, suc, ◌+◌, ◌<◌, Bool, false, List, [], ◌∷◌, ◌++◌, map, flat_map, length, sum_by, Contains, Some, unwrap_or, codes as text, bytes_eq, refl}
 use Rattle.std.specs.List.{position_from}
 use Rattle.std.proofs.Common.{sym, ap, subst, ◌∙◌, arith, inl, inr, true≢false}

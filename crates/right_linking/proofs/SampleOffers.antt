@@ -1,4 +1,4 @@
--- In a program of a root and its child the systems stand where it is said, and offer what their codes do.
+-- In a program of a root and its child the systems are where it is said, and offer what their codes do.
 use Rattle.std.specs.Prelude.{◌≡◌, refl, ◌+◌, [], ◌∷◌, map, slice_index_or, Some, None}
 use Rattle.std.specs.Fmt.{digits}
 use Rattle.modules_profile.specs.LocalSystem.{LocalSystem}

@@ -1,4 +1,4 @@
--- The names of systems: each is one system's, and what a procedure's name begins with, up to the line below, tells whose it is.
+-- The names of systems: each is one system's, and what a procedure's name begins with, up to the line below, says whose it is.
 use Rattle.std.specs.Prelude.{◌≡◌, ◌≢◌, ℕ, ◌<◌, ◌+◌, ◌%◌, ◌^◌, Bool, true, false, not, ◌==◌, List, [], ◌∷◌, ◌++◌, Option, Some, None, decimal, bytes_eq, refl, ⊤}
 use Rattle.std.specs.List.{list_all}
 use Rattle.std.specs.Cmp.Lexicographic.{same_text, other_text}

@@ -1,4 +1,4 @@
--- The systems of a model stand in the order of their rows, each once, and so a system's children behind it.
+-- The systems of a model are in the order of their rows, each once, and so a system's children after it.
 use Rattle.std.specs.Prelude.{◌≡◌, ℕ, zero, suc, ◌+◌, ◌<◌, ◌≤◌, Bool, true, false, cond, ◌&&◌, List, ◌∷◌, map, filter, length, slice_get, Contains, Option, Some, None, refl}
 use Rattle.std.specs.List.{range_with_len}
 use Rattle.std.proofs.Common.{sym, ap, subst, ◌∙◌, arith, inl, inr}
@@ -75,7 +75,7 @@ stands-later rows i j s t first second less = elim (cases_lt i j) [
           let ranks : rank s ≡ rank t = ap rank equal in omega arith
     ]
 
--- no system stands at two places
+-- no system is at two places
 pub stands-once : (rows : List Row) (i j : ℕ) (s : Option ℕ) → slice_get (systems rows) i ≡ Some s →
     slice_get (systems rows) j ≡ Some s → i ≡ j
 stands-once rows i j s first second = elim (cases_lt i j) [
@@ -96,7 +96,7 @@ owner-before : (rows : List Row) (e : ℕ) (s : Option ℕ) → IsOwner rows e s
 owner-before rows e None owns = omega arith
 owner-before rows e (Some f) owns = let before = owns.0 in omega arith
 
--- a child stands at some place, behind the system around it
+-- a child is at some place, after the system around it
 pub child-later : (rows : List Row) (place : ℕ) (s : Option ℕ) (e : ℕ) → IsNested rows → slice_get (systems rows) place ≡ Some s →
     Contains (subsystems_of rows s) e → (k : ℕ) × (place < k) × (slice_get (systems rows) k ≡ Some (Some e))
 child-later rows place s e nested at child =

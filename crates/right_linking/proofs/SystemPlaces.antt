@@ -1,4 +1,4 @@
--- The struct and the procedures of each system stand where its code does among the codes.
+-- The struct and the procedures of each system are where its code is among the codes.
 use Rattle.std.specs.Prelude.{◌≡◌, ◌≢◌, ℕ, suc, ◌+◌, ◌-◌, ◌<◌, Bool, true, false, not, ◌&&◌, MatchBool, List, [], ◌∷◌, ◌++◌, map, flat_map, filter, length, slice_get, Contains, Option, Some, None, unwrap_or, codes as text, decimal, bytes_eq, refl, ⊤}
 use Rattle.std.specs.List.{AllByRecursion, AllZip, position_from, range_with_len}
 use Rattle.std.proofs.Common.{sym, ap, subst, ◌∙◌, arith, inl, inr}

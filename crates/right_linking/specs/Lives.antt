@@ -88,7 +88,7 @@ module _ (a : Parts) (v : Views a) (s : Option ℕ) (xs : List (List ℤ)) (run 
     pub resets : IsTrue (outer_at n t).is_off_around → IsQuiet n i
 
   -- An instance of the system n that was started from these fields lives through the run: in each
-  -- tick it serves, what it leaves is what it stands as in the next tick, in the first it stands as
+  -- tick it serves, what it leaves is how it begins the next tick, in the first it is as
   -- its start left it, and what it leaves holds what the run has.
   pub record Lives (renewed : Renewed a v) (n : Option ℕ) (before : Cells) : Type 0 where
     pub at : ℕ → InstanceTick

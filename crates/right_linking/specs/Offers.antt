@@ -45,7 +45,7 @@ abbrev pub child_offers : (a : Parts) → Views a → Option ℕ → List Offer
 child_offers a v s = map (λ (u : ChildUse). offer_of a v u.header.row) (v.at s).local.children
 
 -- The procedures of the system s, at this place, call own earlier ones and those that its children
--- offer; these stand before its own in the program, and the outputs that it reads stand where they
+-- offer; these come before its own in the program, and the outputs that it reads are where they
 -- are offered.
 pub record NamesAgree (a : Parts) (v : Views a) (place : ℕ) (s : Option ℕ) : Type 0 where
   pub called : (j : ℕ) (q : ProcedureTree) → slice_get (v.at s).code.procedures j ≡ Some q →

@@ -40,7 +40,7 @@ program_of a = assembled a.codes a.root a.hyper a.pures
 abbrev pub diagram : Parts → Diagram
 diagram a = diagram_of a.model
 
--- root first and then by row, as the codes stand
+-- root first and then by row, as the codes are
 abbrev pub all_systems : Parts → List (Option ℕ)
 all_systems a = systems (diagram a).rows
 
@@ -54,7 +54,7 @@ pub record CodedSystem : Type 0 where
 abbrev pub coded_header : CodedSystem → SystemHeader
 coded_header c = own_header c.local c.profile
 
--- c is the system s, whose code stands at this place among the codes, and is right by itself
+-- c is the system s, whose code is at this place among the codes, and is right by itself
 pub record IsCodedAs (a : Parts) (place : ℕ) (s : Option ℕ) (c : CodedSystem) : Type 0 where
   pub stands : slice_get a.codes place ≡ Some c.code
   pub local : IsLocalOf a.model s c.local
@@ -64,7 +64,7 @@ pub record IsCodedAs (a : Parts) (place : ℕ) (s : Option ℕ) (c : CodedSystem
   pub lawful : IsLawfulAlone c.local c.code
   pub chains : HasShortChains c.local c.code
 
--- a child is known by the header of its own rows and profile, and stands behind the system around
+-- a child is known by the header of its own rows and profile, and is after the system around
 -- it, which is at this place
 pub record IsChildBehind (a : Parts) (at : Option ℕ → CodedSystem) (place : ℕ)
     (u : ChildUse) : Type 0 where

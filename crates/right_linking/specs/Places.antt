@@ -1,4 +1,4 @@
--- Where the structs, fields and procedures of a program stand that is put together.
+-- Where the structs, fields and procedures are of a program that is put together.
 use Rattle.std.specs.Prelude.{◌≡◌, ℕ, ◌+◌, List, [], map, length, flat_map, slice_get, slice_index_or, Contains, Option, Some}
 use Rattle.modules_profile.specs.declared.ChildUse.{ChildUse}
 use Rattle.c_syntax.specs.Tree.{struct_fields}
@@ -14,7 +14,7 @@ use Rattle.right_claim.specs.Paths.{place_in}
 use Rattle.right_claim.specs.Anew.{forms_at}
 use Rattle.right_linking.specs.Parts.{Parts, program_of, all_systems, Views}
 
--- the struct of a system stands at the position of its code, and each of its procedures behind the
+-- the struct of a system is at the position of its code, and each of its procedures after the
 -- first of them
 pub record StandsAt (a : Parts) (v : Views a) (place : ℕ) (s : Option ℕ) : Type 0 where
   pub struct : struct_place (program_of a) s ≡ struct_position a.codes place
@@ -34,7 +34,7 @@ FieldsAreFound =
     (a : Parts) (v : Views a) (s : Option ℕ) (f : ℕ) (slot : Slot) → Contains (all_systems a) s →
     slice_get (v.at s).slots f ≡ Some slot → place_in (program_of a) s (slot_field slot).name ≡ f
 
--- the root's struct and procedures stand last
+-- the root's struct and procedures come last
 pub record RootStandsLast (a : Parts) : Type 0 where
   pub struct : root_struct (program_of a) ≡ length a.codes
   pub fields : root_fields (program_of a) ≡ (root_structure a.codes a.root a.hyper).fields

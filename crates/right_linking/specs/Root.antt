@@ -1,4 +1,4 @@
--- The struct `root` of a program that is put together, behind its start and in its ticks.
+-- The struct `root` of a program that is put together, after its start and in its ticks.
 use Rattle.std.specs.Prelude.{◌≡◌, ℕ, suc, ◌%◌, ◌<◌, ◌≤◌, ⊤, List, [], ◌∷◌, map, length, slice_index_or, Option, None, unwrap_or, ℤ, pos}
 use Rattle.std.specs.List.{AllByRecursion}
 use Rattle.diagram_meaning.specs.Run.{outs}

@@ -57,7 +57,7 @@ AssembledIsCode a = IsAssembled a.model a.hyper (program_of a)
 
 -- ---- Instances that were started
 
--- An instance of a system, at a path below some fields, that stands as its start left it answers
+-- An instance of a system, at a path below some fields, that is as its start left it answers
 -- each lawful script.
 abbrev pub StartedAnswer : (a : Parts) (v : Views a) → Renewed a v → Type 0
 StartedAnswer a v renewed =
@@ -66,7 +66,7 @@ StartedAnswer a v renewed =
     cells_at path cells ≡ (renewed.started s).renewed before →
     AnswersScripts (program_of a) (diagram a) a.hyper path s cells
 
--- fields of the root whose instance of `top` stands as its start left it answer each trace
+-- fields of the root whose instance of `top` is as its start left it answer each trace
 abbrev pub StartedTakeTraces : (a : Parts) (v : Views a) → Renewed a v → Type 0
 StartedTakeTraces a v renewed =
     (before cells : Cells) → HasForms (renewed.started None).forms before →

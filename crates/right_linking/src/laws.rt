@@ -16,7 +16,7 @@ pub fn codes_have_views()
     header_is_of_own_rows();
 }
 
-/// A system's struct and procedures stand in the program where its code does among the codes.
+/// A system's struct and procedures are in the program where its code is among the codes.
 pub fn systems_have_places()
     ensures { SystemsHavePlaces }
 {}
@@ -28,7 +28,7 @@ pub fn fields_have_places()
     systems_have_places();
 }
 
-/// The root's struct and procedures stand last.
+/// The root's struct and procedures come last.
 pub fn root_has_places()
     ensures { RootHasPlaces }
 {

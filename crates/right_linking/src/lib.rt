@@ -1,9 +1,9 @@
-//! The whole program: where each struct, field and procedure of the systems stands in it, and that they do there what
+//! The whole program: where each struct, field and procedure of the systems is in it, and that they do there what
 //! they do by themselves.
 //!
 //! Proved of each such program: each system is known with its code, and by the header that the system
-//! around it sees; its struct, fields and procedures stand where its code does among the codes, and
-//! those of the root stand last; its procedures take what its header says, and do what its code does
+//! around it sees; its struct, fields and procedures are where its code is among the codes, and
+//! those of the root come last; its procedures take what its header says, and do what its code does
 //! among the procedures of its children.
 //!
 //! Proved to follow: where each instance lives through runs, and the root takes single ticks, the root

@@ -37,7 +37,7 @@ pub called-is : (js : List ℕ) (j : ℕ) → called_of js j ≡ list_any (λ i.
 called-is [] j = refl
 called-is (k ∷ js) j = ap₂ (λ a b. a || b) (same-either j k) (called-is js j)
 
--- each of them was called, and stands among them in order
+-- each of them was called, and is among them in order
 pub is-called : (js : List ℕ) (j : ℕ) → Contains js j → called_of js j ≡ true
 is-called [] j has = absurd (in-none j has)
 is-called (k ∷ js) j has = elim (in-cases k j js has) [
@@ -58,7 +58,7 @@ module _ (called : ℕ → Bool) (j : ℕ) where
   other-same : (i : ℕ) → i ≢ j → with_called called j i ≡ called i
   other-same i apart = ap (λ b. b || called i) (ne_eqb i j apart)
 
-  -- from behind j on nothing changes
+  -- after j nothing changes
   left-behind : (a n : ℕ) → j < a →
       filter (λ i. not (with_called called j i)) (range_with_len a n) ≡ filter (λ i. not (called i)) (range_with_len a n)
   left-behind a zero later = refl
@@ -121,7 +121,7 @@ none-left (j ∷ functions) js all =
 
 -- ---- Acts one after another
 
--- the acts so far, with further ones behind them
+-- the acts so far, with further ones after them
 abbrev pub so_far : List ℕ → List Act → List Act
 so_far js more = map out (in_order js) ++ more
 
@@ -135,7 +135,7 @@ whole-from js left =
     ap (λ acts. acts ++ update ∷ []) (map-append out (in_order js) left) ∙ append_assoc (map out (in_order js)) (map out left) (update ∷ [])
 
 module _ (i : InstanceTick) where
-  -- the steps of what comes behind them are among all
+  -- the steps of what comes after them are among all
   pub most-behind : (js : List ℕ) (more : List Act) → most_along i (called_of js) more ≤ most_along i none_called (so_far js more)
   most-behind [] more = omega arith
   most-behind (j ∷ js) more =

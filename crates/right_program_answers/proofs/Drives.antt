@@ -124,7 +124,7 @@ module _ (headers : HeaderIsOfOwnRows) (sums : BudgetsSumToBound) (a : Parts) (v
 
   -- ---- Between two calls
 
-  -- In tick t, behind calls of these functions, the last of them first.
+  -- In tick t, after calls of these functions, the last of them first.
   pub record StandsBetween (t : ℕ) (called : List ℕ) (cells : Cells) (log : List LoggedCall) (stores : List StoredField) : Type 0 where
     pub there : HasPath path cells
     pub fields : cells_at path cells ≡ (lives.at t).standing (called_of called)

@@ -60,7 +60,7 @@ done-at [] go cells P there h =
 done-at (f ∷ path) go cells P there h =
     in-field f path cells P there.0 (at_path path go (fields_at cells f)) (done-at path go (fields_at cells f) P there.1 h)
 
--- ---- One behind another
+-- ---- One after another
 
 pub calls-under-both : (path : List ℕ) (xs ys : List LoggedCall) → calls_under path (xs ++ ys) ≡ calls_under path xs ++ calls_under path ys
 calls-under-both [] xs ys = refl

@@ -11,7 +11,7 @@ abbrev pub after_all : (ℕ → Bool) → List Act → ℕ → Bool
 after_all called [] = called
 after_all called (a ∷ acts) = after_all (called_after called a) acts
 
--- behind calls of functions those are called, and those that were before
+-- after calls of functions those are called, and those that were before
 pub after-calls : (fs : List ℕ) (c d : ℕ → Bool) (i : ℕ) → (Contains fs i → d i ≡ true) → (c i ≡ true → d i ≡ true) →
     (d i ≡ true → (c i ≡ true) ⊎ Contains fs i) → after_all c (map out fs) i ≡ d i
 after-calls [] c d i called kept none = by (c i) (d i) refl refl

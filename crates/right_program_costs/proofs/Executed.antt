@@ -123,7 +123,7 @@ module _ (local : LocalSystem) (lawful : IsLocal local) where
         by (inl low) (inl high) = absurd
             (true≢false (sym is ∙ no-function called i (λ both. let most = both.1 in omega (arith, most, high))))
 
-    -- what is left behind a call of function j, and what it calls, is what was left before
+    -- what is left after a call of function j, and what it calls, is what was left before
     pub left-splits : (called : ℕ → Bool) (j : ℕ) →
         IsPermutation (newly_called local h held m called update u)
         (newly_called local h held m called (out j) u ++ newly_called local h held m (with_called called j) update u)
@@ -158,7 +158,7 @@ module _ (local : LocalSystem) (lawful : IsLocal local) where
     all-left = all-kept (called_in true (newly_executed local h held m none_called update) u) (range_with_len 1 count)
         (λ i. called-is (newly_executed local h held m none_called update) i ∙ ap not (executed-none h held (Call e i)))
 
-    -- behind the calls of a function's nodes those are called
+    -- after the calls of a function's nodes those are called
     pub called-behind : (called : ℕ → Bool) (j : ℕ) (fs : List ℕ) → IsPermutation (newly_called local h held m called (out j) u) fs →
         after_all (called_in true (executed_by h held called) u) (map out fs) ≡ called_in true (executed_by h held (with_called called j)) u
     called-behind called j fs order = fun_ext

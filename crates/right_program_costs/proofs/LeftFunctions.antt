@@ -8,7 +8,7 @@ use Rattle.std.proofs.lemmas.Map.Keys.{IsDistinct-IsPermutation}
 use Rattle.modules_profile.proofs.lemmas.Members.{in-none, in-rest, in-cases, in-range, of-range}
 use Rattle.right_relation.specs.Instances.{none_called, with_called}
 
--- no number stands there twice
+-- no number is there twice
 abbrev pub Differ : List ℕ → Type 0
 Differ [] = ⊤
 Differ (x ∷ xs) = ((y : ℕ) → Contains xs y → (y == x) ≡ false) × Differ xs

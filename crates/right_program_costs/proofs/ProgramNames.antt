@@ -43,7 +43,7 @@ is_plain b = not (b == 95)
 line-not-plain : is_plain 95 ≡ true → ⊥
 line-not-plain e = true≢false (sym e)
 
--- texts that go on with a line are one up to there, and behind it
+-- texts that go on with a line are one up to there, and after it
 pub front-one : (xs ys r t : List ℕ) → list_all is_plain xs ≡ true → list_all is_plain ys ≡ true → xs ++ 95 ∷ r ≡ ys ++ 95 ∷ t → xs ≡ ys
 front-one [] [] r t plain others same = refl
 front-one [] (y ∷ ys) r t plain others same =
@@ -103,7 +103,7 @@ member : {A : Type 0} (P : A → Type 0) (xs : List A) (x : A) → AllByRecursio
 member P [] x all has = absurd (in-none x has)
 member P (y ∷ ys) x all has = elim (in-cases y x ys has) [ inl same ↦ subst P same all.0 | inr more ↦ member P ys x all.1 more ]
 
--- what stands behind the name of a system in one of its procedures' names
+-- what comes after the name of a system in one of its procedures' names
 abbrev pub IsOther : Option ℕ → ℕ → List ℕ → Type 0
 IsOther s few name = (j : ℕ) → few < j → j < 2 ^ 64 → name ≢ out_name s j
 

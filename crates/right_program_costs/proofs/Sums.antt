@@ -49,7 +49,7 @@ total-none f (x ∷ xs) none =
 abbrev pub one-if : Bool → ℕ
 one-if t = cond t 1 0
 
--- where what passes stands at one place
+-- where what passes is at one place
 pub at-most-one : {A : Type 0} (test : A → Bool) (xs : List A) →
     ((i k : ℕ) (x y : A) → slice_get xs i ≡ Some x → slice_get xs k ≡ Some y → test x ≡ true → test y ≡ true → i ≡ k) →
     total (λ x. one-if (test x)) xs ≤ 1

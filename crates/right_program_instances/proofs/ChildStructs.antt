@@ -1,4 +1,4 @@
--- The struct of a child is found by its name among the codes, and stands before that of the system around it.
+-- The struct of a child is found by its name among the codes, and comes before that of the system around it.
 use Rattle.std.specs.Prelude.{◌≡◌, ℕ, ◌+◌, ◌-◌, ◌<◌, false, length, slice_get, Option, Some, unwrap_or, bytes_eq}
 use Rattle.std.proofs.Common.{sym, ap, ◌∙◌, arith}
 use Rattle.std.proofs.lemmas.Option.{same_Some}
@@ -24,7 +24,7 @@ module _ (places : SystemsHavePlaces) (a : Parts) (v : Views a) where
       let known = v.each place s stands in
       ap (λ (st : StructTree). st.name) known.shape.structure ∙ ap (λ l. system_name l.row) known.local.is_local
 
-  -- systems of one name stand at one place
+  -- systems of one name are at one place
   one-place : (i k : ℕ) (s t : Option ℕ) → slice_get (all_systems a) i ≡ Some s → slice_get (all_systems a) k ≡ Some t →
       system_name s ≡ system_name t → i ≡ k
   one-place i k s t first second same =

@@ -1,4 +1,4 @@
--- The forms of a struct's fields are told by those of the structs before it.
+-- The forms of a struct's fields follow from those of the structs before it.
 use Rattle.std.specs.Prelude.{◌≡◌, ℕ, zero, suc, ◌+◌, ◌<◌, ⊤, List, [], ◌∷◌, ◌++◌, map, length, slice_index_or, refl}
 use Rattle.std.specs.List.{AllByRecursion}
 use Rattle.std.proofs.Common.{sym, ap, ap₂, subst, ◌∙◌, arith}

@@ -53,7 +53,7 @@ in-systems rows e below subsystem =
     in-rest None (Some e) (map Some (systems_inside rows None))
     (in-map Some (systems_inside rows None) e (in-inside rows None e below subsystem refl))
 
--- ---- What stands around a system
+-- ---- What is around a system
 
 pub none-outward : (rows : List Row) (s : Option ℕ) (n : ℕ) → outward rows s n None ≡ []
 none-outward rows s zero = refl
@@ -74,7 +74,7 @@ within-owner rows nested (Some m) (Some g) e below own inside =
     let around_is = enclosing-step rows None nested g (omega (arith, before, below)) in
     sym (ap (λ o. list_any (is_system (Some m)) (enclosing rows None o)) own ∙ ap (list_any (is_system (Some m))) around_is) ∙ inside
 
--- what stands around the rows of subsystem g inside s, itself first
+-- what is around the rows of subsystem g inside s, itself first
 module _ (rows : List Row) (s : Option ℕ) where
   abbrev is_kept : ℕ → Bool
   is_kept k = not (is_system s k)

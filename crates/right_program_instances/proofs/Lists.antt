@@ -41,7 +41,7 @@ all-mapped P f (x ∷ xs) all = (all x, all-mapped P f xs all)
 
 -- ---- Searches
 
--- the first that passes stands here
+-- the first that passes is here
 pub position-at : {A : Type 0} (test : A → Bool) (xs : List A) (n k : ℕ) (x : A) → slice_get xs k ≡ Some x → test x ≡ true →
     ((i : ℕ) (y : A) → i < k → slice_get xs i ≡ Some y → test y ≡ false) → position_from test n xs ≡ Some (n + k)
 position-at test [] n k x at passes others = absurd (let wrong : ⊥ = cc at in wrong)
@@ -54,7 +54,7 @@ position-at test (y ∷ xs) n (suc k) x at passes others =
     ap (λ b. cond b (Some n) (position_from test (n + 1) xs)) (others zero y (omega arith) refl)
     ∙ position-at test xs (n + 1) k x at passes (λ i z below there. others (suc i) z (omega arith) there) ∙ ap Some place
 
--- the first that passes stands behind these
+-- the first that passes comes after these
 pub position-behind : {A : Type 0} (test : A → Bool) (xs : List A) (x : A) (n : ℕ) → AllByRecursion (λ y. test y ≡ false) xs →
     test x ≡ true → position_from test n (xs ++ x ∷ []) ≡ Some (n + length xs)
 position-behind test [] x n none passes =

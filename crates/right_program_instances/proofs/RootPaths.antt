@@ -118,7 +118,7 @@ module _ (places : SystemsHavePlaces) (a : Parts) (v : Views a) (last : RootStan
     abbrev top : Cells
     top = fields_at cells (top_place program)
 
-    -- along this path behind `top`
+    -- along this path after `top`
     at-path : (s : Option ℕ) (path : List ℕ) → path_to program rows s ≡ top_place program ∷ path → HasPath path top →
         HasFormsOf s (cells_at path top) → HasInstance a cells s
     at-path s path is there forms = record {

@@ -1,4 +1,4 @@
--- The different members of a list: where each stands, and how many places there are.
+-- The different members of a list: where each is, and how many places there are.
 use Rattle.std.specs.Prelude.{◌≡◌, ℕ, zero, suc, ◌+◌, ◌<◌, ◌≤◌, ◌==◌, Bool, true, false, not, cond, eqb, List, [], ◌∷◌, map, filter, length, slice_get, Contains, Some, unwrap_or, refl}
 use Rattle.std.specs.List.{AllByRecursion, IsDistinct, list_any, position_from, enumerate_from, range_with_len}
 use Rattle.std.proofs.Common.{sym, ap, ap₂, subst, ◌∙◌, arith, inl, inr, true≢false}
@@ -11,7 +11,7 @@ use Rattle.modules_profile.proofs.lemmas.MaskBits.{in-different}
 use Rattle.modules_profile.proofs.lemmas.Members.{in-first, in-rest, in-cases, at-below, below-at, of-map, of-filter}
 use Rattle.right_linking.proofs.lemmas.AssembledPlaces.{IsFirst, first-position, first-of}
 
--- no member stands at two places
+-- no member is at two places
 abbrev pub IsOnce : List ℕ → Type 0
 IsOnce xs = (i j x : ℕ) → slice_get xs i ≡ Some x → slice_get xs j ≡ Some x → i ≡ j
 
@@ -57,7 +57,7 @@ module _ (needs : List ℕ) where
   pub once : IsOnce (different needs)
   once i j x one two = apart-at (different needs) i j x (apart-different needs) one two
 
-  -- where a need stands among the different ones
+  -- where a need is among the different ones
   abbrev pub place_of : ℕ → ℕ
   place_of x = unwrap_or (position_from (λ y. y == x) 0 (different needs)) 0
 
@@ -92,7 +92,7 @@ none-given test n (p ∷ ps) fails =
     (filter (λ (e : ℕ × ℕ). test e.1) (enumerate_from (n + 1) ps))) (fails 0 p refl)
     ∙ none-given test (n + 1) ps (λ i q at. fails (suc i) q at)
 
--- where what stands beside one need alone passes, that is found
+-- where what is beside one need alone passes, that is found
 pub one-given : (ds ps : List ℕ) (test : ℕ → Bool) (x k n : ℕ) → IsOnce ds → slice_get ds k ≡ Some x → length ps ≡ length ds →
     ((i d q : ℕ) → slice_get ds i ≡ Some d → slice_get ps i ≡ Some q → test q ≡ (x == d)) →
     map (λ (e : ℕ × ℕ). e.0) (filter (λ (e : ℕ × ℕ). test e.1) (enumerate_from n ps)) ≡ (n + k) ∷ []

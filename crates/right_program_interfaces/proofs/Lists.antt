@@ -61,7 +61,7 @@ count-mapped p r f (x ∷ xs) same =
     ∙ ap₂ (λ b n. cond b 1 0 + n) (same x (in-first x xs)) (count-mapped p r f xs (λ y has. same y (in-rest x y xs has)))
     ∙ sym (sum_by-cons (λ y. cond (r y) 1 0) x xs)
 
--- what stands beside the element at a place
+-- what is beside the element at a place
 pub zip-at : {A B : Type 0} (P : A → B → Type 0) (xs : List A) (ys : List B) (k : ℕ) (x : A) → AllZip P xs ys → slice_get xs k ≡ Some x →
     (y : B) × (slice_get ys k ≡ Some y) × P x y
 zip-at P [] ys k x all at = absurd (let wrong : ⊥ = cc at in wrong)

@@ -1,4 +1,4 @@
--- The rows of a system by their ports: each stands at its own, and there are at most 32.
+-- The rows of a system by their ports: each is at its own, and there are at most 32.
 use Rattle.std.specs.Prelude.{◌≡◌, ℕ, suc, ◌+◌, ◌≤◌, Bool, List, length, slice_get, Option, Some}
 use Rattle.std.proofs.Common.{sym, ap, ◌∙◌, arith}
 use Rattle.std.proofs.lemmas.List.Sums.{length-filter}

@@ -1,4 +1,4 @@
--- Names that end with numbers: where they stand in a list, and how many of them there are without a gap.
+-- Names that end with numbers: where they are in a list, and how many of them there are without a gap.
 use Rattle.std.specs.Prelude.{◌≡◌, ◌≢◌, ℕ, zero, suc, ◌+◌, ◌^◌, ◌<◌, ◌≤◌, Bool, true, false, ◌||◌, cond, List, [], ◌∷◌, ◌++◌, map, length, find, slice_get, Contains, Some, unwrap_or, bytes_eq, decimal, refl}
 use Rattle.std.specs.List.{position_from, prefix_len, range_with_len, list_any, AllByRecursion}
 use Rattle.std.specs.Cmp.Lexicographic.{same_text, other_text}
@@ -143,7 +143,7 @@ found-by-name name (y ∷ ys) (suc j) x distinct at =
     (ap (bytes_eq (name y)) (sym is) ∙ has_name-at (map name ys) (name y) j distinct.1 (at-below (map name ys) j (name x) named))
     ∙ found-by-name name ys j x distinct.2 at
 
--- what is found stands in the list
+-- what is found is in the list
 pub position-less : {A : Type 0} (test : A → Bool) (xs : List A) (n m : ℕ) → n + length xs ≤ m → 0 < m →
     unwrap_or (position_from test n xs) 0 < m
 position-less test [] n m most some = some

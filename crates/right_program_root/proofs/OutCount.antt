@@ -1,4 +1,4 @@
--- As many output procedures of `top` stand in the program without a gap as it has functions.
+-- As many output procedures of `top` are in the program without a gap as it has functions.
 use Rattle.std.specs.Prelude.{◌≡◌, ℕ, suc, ◌+◌, ◌^◌, ◌<◌, ◌≤◌, false, List, [], ◌∷◌, ◌++◌, map, flat_map, reverse, length, slice_get, slice_index_or, Contains, Option, Some, None, bytes_eq, codes as text, decimal, refl}
 use Rattle.std.specs.List.{AllZip, range_with_len, list_any}
 use Rattle.std.proofs.Common.{sym, ap, subst, ◌∙◌, arith, inl, inr}
@@ -162,7 +162,7 @@ module _ (a : Parts) (v : Views a) (row : (coded_header (v.at None)).row ≡ Non
     | inr more ↦ Contains-append_right (f z) (flat_map f xs) y (in-flat f xs x y more at)
   ]
 
-  -- each procedure of `top` is in the program, but for what it names
+  -- each procedure of `top` is in the program, except for what it names
   pub top-there : (q : ProcedureTree) → Contains (v.at None).code.procedures q →
       Contains (program_of a).procedures (moved_procedure (relocation_of a.codes 0) q)
   top-there q has =

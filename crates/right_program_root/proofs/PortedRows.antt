@@ -1,4 +1,4 @@
--- The rows of the root by their ports: each stands at its own, and there are at most 32.
+-- The rows of the root by their ports: each is at its own, and there are at most 32.
 use Rattle.std.specs.Prelude.{◌≡◌, ℕ, suc, ◌+◌, ◌≤◌, Bool, List, [], ◌∷◌, map, length, Option, refl}
 use Rattle.std.specs.List.{range_with_len}
 use Rattle.std.proofs.Common.{sym, ap, ◌∙◌, arith}

@@ -1,4 +1,4 @@
--- The root's own statements behind its calls: the copies of the outputs, and the number of the next tick.
+-- The root's own statements after its calls: the copies of the outputs, and the number of the next tick.
 use Rattle.std.specs.Prelude.{◌≡◌, ◌≢◌, ◌⊎◌, ℕ, zero, suc, ◌+◌, ◌%◌, ◌/◌, ◌^◌, ◌<◌, ◌≤◌, List, [], ◌∷◌, ◌++◌, map, length, slice_get, Some, ℤ, pos, int_div, unsigned_abs, int_le, ◌≤ℤ◌, Bool, true, false, refl}
 use Rattle.std.specs.List.{enumerate_from}
 use Rattle.std.proofs.Common.{sym, ap, subst, ◌∙◌, arith, inl, inr}
@@ -173,7 +173,7 @@ next-gives scope cells t hyper some short now =
 
 -- ---- Both
 
--- statements of two lists, one behind the other
+-- statements of two lists, one after the other
 pub stmts-append : (xs ys : List StmtTree) → stmts_of_list (xs ++ ys) ≡ stmts_append (stmts_of_list xs) (stmts_of_list ys)
 stmts-append [] ys = refl
 stmts-append (x ∷ xs) ys = ap (more_stmts x) (stmts-append xs ys)

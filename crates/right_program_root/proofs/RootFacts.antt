@@ -1,4 +1,4 @@
--- Where the root's fields stand in its struct.
+-- Where the root's fields are in its struct.
 use Rattle.std.specs.Prelude.{◌≡◌, ◌+◌, length, None}
 use Rattle.std.specs.List.{range_with_len}
 use Rattle.std.proofs.Common.{ap, ◌∙◌}

@@ -162,7 +162,7 @@ module _ (laws : Laws) (a : Parts) (v : Views a) (renewed : Renewed a v) where
         (subst (λ forms. HasForms forms (fields_at before (top_place p))) (sym renewed.starts.0.forms)
         (subst (λ path. HasForms (forms_at p (struct_place p None)) (cells_at path before)) (path-to-top p (diagram a).rows) inside.forms))
 
-    -- behind the call of the start
+    -- after the call of the start
     record Called (after : After) : Type 0 where
       pub count : cells_count after.cells ≡ cells_count before
       pub top_cell : cell_at after.cells f ≡ object started
@@ -192,7 +192,7 @@ module _ (laws : Laws) (a : Parts) (v : Views a) (renewed : Renewed a v) where
               in_time = omega (arith, late);
             }
 
-    -- behind all
+    -- after all
     pub record Begun (after : After) : Type 0 where
       pub count : cells_count after.cells ≡ cells_count before
       pub now_cell : cell_at after.cells 0 ≡ number (pos 0)

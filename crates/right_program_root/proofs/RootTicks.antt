@@ -76,7 +76,7 @@ pub record Laws : Type 0 where
   pub root : RootHasPlaces
   pub offers : OffersAreOfHeaders
 
--- what stands by place, mapped
+-- what is at each place, mapped
 mapped-by : {A : Type 0} (g : ℕ → ℤ) (f : A → ℤ) (k : ℕ) (xs : List A) → ((j : ℕ) (x : A) → slice_get xs j ≡ Some x → g (k + j) ≡ f x) →
     map g (range_with_len k (length xs)) ≡ map f xs
 mapped-by g f k [] each = refl
@@ -162,7 +162,7 @@ module _ (laws : Laws) (a : Parts) (v : Views a) where
       name : List ℕ
       name = (code_at a.codes 0).structure.name
 
-  -- a procedure of `top` stands before those of the root
+  -- a procedure of `top` comes before those of the root
   early : (act : Act) → IsCall (h a v) act → number a v act < systems_count laws.order a + 1
   early act is =
       let there = call-below a v laws.systems act is in

@@ -13,7 +13,7 @@ use Rattle.emit_shape.specs.Reads.{CallSite, stmt_calls, calls_in}
 use Rattle.emit_shape.specs.Relocation.{Relocation, moved_number, moved_stmt, moved_stmts}
 use Rattle.right_program_rules.proofs.Lists.{all-front, all-back}
 
--- ---- One behind another
+-- ---- One after another
 
 -- what holds of each chain
 abbrev pub AreChains : (ℕ → ℕ → Type 0) → List ℕ → Type 0

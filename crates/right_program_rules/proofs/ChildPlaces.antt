@@ -1,4 +1,4 @@
--- Where the children of a system stand: the field of each, its code and its struct.
+-- Where the children of a system are: the field of each, its code and its struct.
 use Rattle.std.specs.Prelude.{◌≡◌, ℕ, zero, suc, ◌+◌, ◌<◌, Bool, true, false, List, [], ◌∷◌, map, slice_get, Option, Some, unwrap_or, bytes_eq}
 use Rattle.std.proofs.Common.{refl, sym, ap, subst, ◌∙◌, arith}
 use Rattle.std.proofs.lemmas.Option.{get_or_from_slice_get, none-some}
@@ -127,7 +127,7 @@ module _ (a : Parts) (v : Views a) where
               code = ap (code_named a.codes) named ∙ code-named behind.inner_place u.header.row behind.stands;
             }
 
-    -- its struct stands before that of the system
+    -- its struct comes before that of the system
     pub struct-before : (inner : ℕ) (t : Option ℕ) → place < inner → slice_get (all_systems a) inner ≡ Some t →
         struct_position a.codes inner < struct_position a.codes place
     struct-before inner t later there = let below = below-codes a v inner t there in omega (arith, later, below)

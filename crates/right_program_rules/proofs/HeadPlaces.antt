@@ -1,4 +1,4 @@
--- Where a public procedure of a system stands in the program.
+-- Where a public procedure of a system is in the program.
 use Rattle.std.specs.Prelude.{◌≡◌, ℕ, ◌+◌, map, slice_get, Contains, Option, Some}
 use Rattle.std.proofs.Common.{sym, ap, subst, ◌∙◌}
 use Rattle.modules_profile.proofs.lemmas.Members.{in-map, in-at}

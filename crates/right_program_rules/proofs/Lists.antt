@@ -101,7 +101,7 @@ distinct-seam (other ∷ names) others name distinct has more = elim (in-cases o
   | inr later ↦ distinct-seam names others name distinct.2 later more
 ]
 
--- each of different names stands at one place
+-- each of different names is at one place
 pub distinct-place : (names : List (List ℕ)) (i j : ℕ) (name : List ℕ) → AreDistinct names → slice_get names i ≡ Some name →
     slice_get names j ≡ Some name → i ≡ j
 distinct-place [] i j name distinct first second = absurd (none-some name first)
@@ -129,7 +129,7 @@ apart-of (other ∷ names) others name apart has more = elim (in-cases other nam
   | inr later ↦ apart-of names others name apart.1 later more
 ]
 
--- ---- Procedures, each lawful behind those before it
+-- ---- Procedures, each lawful after those before it
 
 pub procedures-made : (pures : List PureTree) (structs : List StructTree) (earlier ps : List ProcedureTree) →
     ((k : ℕ) (p : ProcedureTree) → slice_get ps k ≡ Some p → IsLawfulProcedure pures structs (earlier ++ take k ps) p) →

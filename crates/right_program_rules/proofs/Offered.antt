@@ -1,4 +1,4 @@
--- What the children of a system offer stands where the names say.
+-- What the children of a system offer is where the names say.
 use Rattle.std.specs.Prelude.{ℕ, List, map, flat_map, slice_index}
 use Rattle.std.proofs.Common.{ap, ◌∙◌}
 use Rattle.std.proofs.lemmas.Option.{get_or_from_slice_get}

@@ -53,7 +53,7 @@ module _ (offered : OfferedStandByName) (places : SystemsHavePlaces) (a : Parts)
   abbrev code : SystemTree
   code = (v.at s).code
 
-  -- where the code stands by itself, and in the program
+  -- where the code is by itself, and in the program
   abbrev m : Relocation
   m = behind_bare local code
 

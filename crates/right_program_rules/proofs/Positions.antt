@@ -1,4 +1,4 @@
--- What stands at each position of a program's procedures: a procedure of a system, or one of the root's.
+-- What is at each position of a program's procedures: a procedure of a system, or one of the root's.
 use Rattle.std.specs.Prelude.{◌≡◌, ◌⊎◌, ℕ, zero, suc, ◌+◌, ◌<◌, ◌≤◌, List, [], ◌∷◌, ◌++◌, map, flat_map, length, drop, sum_by, slice_get, Option, Some}
 use Rattle.std.proofs.Common.{refl, sym, ap, subst, ◌∙◌, arith, inl, inr}
 use Rattle.std.proofs.lemmas.List.{length-append}
@@ -28,7 +28,7 @@ module _ (a : Parts) (v : Views a) where
     pub is : moved_procedure (relocation_of a.codes place) own ≡ q
     pub at : k ≡ first_procedure a.codes place + number
 
-  -- how many stand before those of the root
+  -- how many come before those of the root
   abbrev pub before_root : ℕ
   before_root = length (flat_map (procedures_at a v) (down (length a.codes)))
 
@@ -77,7 +77,7 @@ module _ (a : Parts) (v : Views a) where
       subst (λ ps. slice_get ps (before_root + j) ≡ Some q) (sym (procedures-down a (length a.codes) refl))
       (at-right (flat_map (procedures_at a v) (down (length a.codes))) (root_both a v) j q at)
 
-  -- all procedures of the systems stand before the root's
+  -- all procedures of the systems come before the root's
   pub own-before : (place : ℕ) (s : Option ℕ) → slice_get (all_systems a) place ≡ Some s → (j : ℕ) (q : ProcedureTree) →
       slice_get (v.at s).code.procedures j ≡ Some q → first_procedure a.codes place + j < before_root
   own-before place s stands j q at =
@@ -111,7 +111,7 @@ module _ (a : Parts) (v : Views a) where
       let long = length-down (length a.codes) in
       ap length (structs-down a) ∙ omega (arith, both, made, long)
 
--- ---- Later codes stand first
+-- ---- Later codes come first
 
 abbrev procedure_count : SystemTree → ℕ
 procedure_count c = length c.procedures
@@ -138,7 +138,7 @@ sum-less (y ∷ ys) zero (suc n) le =
 sum-less (y ∷ ys) (suc k) zero le = absurd (omega (arith, le))
 sum-less (y ∷ ys) (suc k) (suc n) le = sum-less ys k n (omega (arith, le))
 
--- the procedures of a later code stand before those of an earlier one
+-- the procedures of a later code come before those of an earlier one
 pub later-first : (xs : List SystemTree) (place inner : ℕ) (x : SystemTree) → place < inner → slice_get xs inner ≡ Some x →
     first_procedure xs inner + length x.procedures ≤ first_procedure xs place
 later-first xs place inner x later at =

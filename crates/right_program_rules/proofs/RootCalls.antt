@@ -124,7 +124,7 @@ module _ (a : Parts) (v : Views a) where
             | inr none ↦ absurd (in-none made.0.0 none)
           ]
 
-  -- where a parameter of the root stands
+  -- where a parameter of the root is
   param-found : (rs : List ParamTree) (name : List ℕ) → Contains (param_names rs) name →
       unwrap_or (position_from (λ (r : ParamTree). bytes_eq r.name name) 0 rs) 0 < length rs
   param-found rs name has =

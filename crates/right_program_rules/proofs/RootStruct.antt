@@ -190,7 +190,7 @@ module _ (a : Parts) (v : Views a) where
     outputs = λ root. outputs-may;
   }
 
-  -- ---- Where it stands
+  -- ---- Where it is
 
   abbrev g : ℕ → StructTree
   g i = moved_struct a.codes (code_at a.codes i)

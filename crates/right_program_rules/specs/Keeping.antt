@@ -11,7 +11,7 @@ use Rattle.emit_shape.specs.Assembled.{relocation_of}
 use Rattle.right_linking.specs.Parts.{Parts, program_of, all_systems, Views}
 use Rattle.right_linking.specs.Whole.{AssembledIsLawful}
 
--- what the children of a system offer stands, in the order in which the system counts it, where the
+-- what the children of a system offer comes, in the order in which the system counts it, where the
 -- names say
 abbrev pub OfferedStandByName : Type 0
 OfferedStandByName = (a : Parts) (v : Views a) (place : ℕ) (s : Option ℕ) (i : ℕ) (head : Head) →

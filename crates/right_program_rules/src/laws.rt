@@ -4,7 +4,7 @@ use diagram_meaning::resolved_cycles_are_short;
 use modules_profile::locals_are_lawful;
 use right_linking::{codes_have_views, systems_have_places};
 
-/// What the children of a system offer stands, in the order in which the system counts it, where the names say.
+/// What the children of a system offer comes, in the order in which the system counts it, where the names say.
 pub fn offered_stand_by_name()
     ensures { OfferedStandByName }
 {

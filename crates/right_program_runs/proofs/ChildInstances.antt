@@ -43,7 +43,7 @@ module _ (a : Parts) (v : Views a) (s : Option ℕ) (xs : List (List ℤ)) (run 
   at-child P t (w ∷ us) live holds zero u at = subst (λ z. P z (live.0.at t)) (same_Some w u at) (holds w live.0)
   at-child P t (w ∷ us) live holds (suc k) u at = at-child P t us live.1 holds k u at
 
-  -- what each leaves in a tick is what it stands as in the next
+  -- what each leaves in a tick is how it begins the next
   pub linked : (t : ℕ) → suc t < length xs → (us : List ChildUse) (live : AllLive us) (k : ℕ) →
       (instance_at (instances us live t) k).after ≡ (instance_at (instances us live (suc t)) k).standing none_called
   linked t below [] live k = refl

@@ -65,7 +65,7 @@ right-of : (p q : Bool) → q ≡ true → (p || q) ≡ true
 right-of true q h = refl
 right-of false q h = h
 
--- a system that stands at a place is the root or a subsystem
+-- a system that is at a place is the root or a subsystem
 is-a-system : (rows : List Row) (place : ℕ) (n : Option ℕ) → slice_get (systems rows) place ≡ Some n → IsSystem rows n
 is-a-system rows zero n at = let root : None ≡ n = cc at in subst (IsSystem rows) root tt
 is-a-system rows (suc place) n at =
@@ -159,7 +159,7 @@ module _ (laws : Laws) (a : Parts) (v : Views a) (renewed : Renewed a v) (s : Op
     -- ---- Ticks, where each child lives
 
     module _ (live : AllLive a v s xs run renewed child_fields local.children) where
-      -- what stands in the ring of a delay, and in the filler, before the start
+      -- what is in the ring of a delay, and in the filler, before the start
       abbrev untouched : Untouched
       untouched = record {
         items = λ b. sized (delay_length (op_at (diagram a) b)) (items_at before (place_in (program_of a) n (memory_name b)));
@@ -322,7 +322,7 @@ module _ (laws : Laws) (a : Parts) (v : Views a) (renewed : Renewed a v) (s : Op
         holds = λ t below. holds-by t (cases_lt t (length xs)) below;
       }
 
-  -- children stand later
+  -- children come later
   lives-from : (count place : ℕ) (n : Option ℕ) → slice_get (all_systems a) place ≡ Some n → IsSystemWithin (diagram a).rows s n →
       (before : Cells) → HasForms (renewed.started n).forms before → length (all_systems a) ≤ place + count →
       Lives a v s xs run renewed n before

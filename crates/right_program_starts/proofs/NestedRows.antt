@@ -76,7 +76,7 @@ module _ (rows : List Row) where
     pub owner-is : (b g : ℕ) → b < length rows → (row_at rows b).owner ≡ Some g → (g < b) × (is_subsystem (row_at rows g).kind ≡ true)
     owner-is b g below own = subst (IsOwner rows b) own (nested.owned b below)
 
-    -- what is inside a subsystem stands behind it
+    -- what is inside a subsystem comes after it
     below-by : (n k b : ℕ) → b < n → b < length rows → is_inside rows (Some k) b ≡ true → k < b
     below-by zero k b few below inside = absurd (omega arith)
     below-by (suc n) k b few below inside =

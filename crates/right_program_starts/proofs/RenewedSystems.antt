@@ -1,5 +1,5 @@
--- Each system of a program is started, and reset, as its code does it among the procedures of its children: the systems that stand
--- last have no children, and each other has its children behind it.
+-- Each system of a program is started, and reset, as its code does it among the procedures of its children: the systems that come
+-- last have no children, and each other has its children after it.
 use Rattle.std.specs.Prelude.{◌≡◌, ℕ, zero, suc, ◌+◌, ◌<◌, ◌≤◌, if◌then◌else◌, List, map, length, sum_by, slice_get, Contains, Option, Some}
 use Rattle.std.specs.List.{AllZip, AllByRecursion}
 use Rattle.std.proofs.Common.{sym, ap, subst, ◌∙◌, arith, inl, inr}

@@ -64,7 +64,7 @@ counted {A} f xs x has = let at = at-in xs x has in by xs at.0 at.1
 abbrev one_if : Bool → ℕ
 one_if t = cond t 1 0
 
--- where what passes stands at one place
+-- where what passes is at one place
 at-most-one : {A : Type 0} (test : A → Bool) (xs : List A) →
     ((i k : ℕ) (x y : A) → slice_get xs i ≡ Some x → slice_get xs k ≡ Some y → test x ≡ true → test y ≡ true → i ≡ k) →
     total (λ x. cond (test x) 1 0) xs ≤ 1

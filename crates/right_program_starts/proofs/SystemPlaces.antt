@@ -1,4 +1,4 @@
--- Each system stands at one place, its children behind it, and they are the subsystems of its rows.
+-- Each system is at one place, its children after it, and they are the subsystems of its rows.
 use Rattle.std.specs.Prelude.{◌≡◌, ℕ, zero, suc, ◌+◌, ◌<◌, Bool, true, false, cond, ◌&&◌, List, ◌∷◌, map, filter, length, slice_get, Contains, Option, Some, None, refl}
 use Rattle.std.specs.List.{range_with_len}
 use Rattle.std.proofs.Common.{sym, ap, ◌∙◌, arith}
@@ -17,7 +17,7 @@ use Rattle.right_linking.specs.Parts.{Parts, diagram, all_systems, IsChildBehind
 use Rattle.right_program_starts.proofs.Everywhere.{member, map-map}
 use Rattle.right_program_starts.proofs.NestedRows.{of-inside, in-inside}
 
--- ---- A number that is kept of a row of numbers stands at one place
+-- ---- A number that is kept of a row of numbers is at one place
 
 kept-once : (test : ℕ → Bool) (a n i j x : ℕ) → slice_get (filter test (range_with_len a n)) i ≡ Some x →
     slice_get (filter test (range_with_len a n)) j ≡ Some x → i ≡ j
@@ -63,7 +63,7 @@ module _ (a : Parts) where
   pub nested : IsNested (diagram a).rows
   nested = a.can.resolved.tree.table.nested
 
-  -- what stands behind is another system
+  -- what comes after is another system
   pub others : (i j : ℕ) (s t : Option ℕ) → slice_get (all_systems a) i ≡ Some s → slice_get (all_systems a) j ≡ Some t → i < j →
       same_system t s ≡ false
   others i j s t first second less = by (same_system t s) refl

@@ -1,4 +1,4 @@
--- What a program offers stands at its place in the one that refines it: by name, and each system's output procedures.
+-- What a program offers is at its place in the one that refines it: by name, and each system's output procedures.
 use Rattle.std.specs.Prelude.{◌≡◌, ℕ, ◌+◌, ◌<◌, ◌≤◌, not, Bool, true, false, ◌||◌, List, map, length, slice_get, Contains, Option, Some, unwrap_or}
 use Rattle.std.specs.List.{range_with_len}
 use Rattle.std.proofs.Common.{sym, ap, subst, ◌∙◌, arith}

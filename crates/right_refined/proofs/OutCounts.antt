@@ -35,7 +35,7 @@ of-struct pures structs earlier (x ∷ xs) h are has = elim (in-cases x h xs has
 module _ (p : ProgramTree) (d : Diagram) (shaped : IsShaped p d) where
   -- ---- No other procedure of the program has the name of one function more
 
-  -- the struct of a name stands where its procedures say
+  -- the struct of a name is where its procedures say
   struct-found : (h : ProcedureTree) (name : List ℕ) → Contains p.procedures h → (struct_at p h.of).name ≡ name →
       position_from (λ st. bytes_eq st.name name) 0 p.structs ≡ Some h.of
   struct-found h name inside is =

@@ -39,7 +39,7 @@ module _ (p : ProgramTree) (d : Diagram) (shaped : IsShaped p d) (s : Option ℕ
   abbrev others : List Head
   others = rest p d shaped s has
 
-  -- behind the name of the struct: that of a function, or of something else
+  -- after the name of the struct: that of a function, or of something else
   abbrev OwnName : List ℕ → Type 0
   OwnName name =
       ((j : ℕ) × (1 ≤ j) × (j < 1 + many) × (name ≡ system_name s ++ 95 ∷ (codes "out" ++ decimal j)))

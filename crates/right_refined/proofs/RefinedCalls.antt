@@ -67,7 +67,7 @@ module _ (place : ℕ → ℕ) where
       by true rest = ap (λ ks. place c.procedure ∷ ks) rest
       by false rest = rest
 
-  -- the calls of two, one behind the other
+  -- the calls of two, one after the other
   pub both-placed : (log more others : List LoggedCall) → others ≡ map (placed_call place) more →
       map (placed_call place) (log ++ more) ≡ map (placed_call place) log ++ others
   both-placed log more others is = map-append (placed_call place) log more ∙ ap (λ l. map (placed_call place) log ++ l) (sym is)

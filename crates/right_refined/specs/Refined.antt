@@ -24,7 +24,7 @@ pub record DifferInBodies (h g : ProcedureTree) : Type 0 where
 abbrev pub is_offered : ProcedureTree → Bool
 is_offered h = not h.private || is_interface h.name
 
--- a procedure of p stands at its place in q
+-- a procedure of p is at its place in q
 pub record StandsAt (place : ℕ → ℕ) (p q : ProgramTree) (k : ℕ) (h : ProcedureTree) : Type 0 where
   pub moved : ProcedureTree
   pub there : slice_get q.procedures (place k) ≡ Some moved

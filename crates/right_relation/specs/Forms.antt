@@ -1,4 +1,4 @@
--- What fields the instances of a struct have, whatever numbers stand in them.
+-- What fields the instances of a struct have, whatever numbers are in them.
 use Rattle.std.specs.Prelude.{◌≡◌, ℕ, List, [], ◌∷◌, ◌++◌, map, length, slice_index_or, IsTrue, ⊤}
 use Rattle.std.specs.List.{AllByRecursion}
 use Rattle.c_syntax.specs.declared.CType.{CType}

@@ -18,7 +18,7 @@ none_called j = false
 abbrev pub with_called : (ℕ → Bool) → ℕ → ℕ → Bool
 with_called called j i = (i == j) || called i
 
--- those called behind an act; behind an update or a reset the next tick begins
+-- those called after an act; after an update or a reset the next tick begins
 abbrev pub called_after : (ℕ → Bool) → Act → ℕ → Bool
 called_after called (out j) = with_called called j
 called_after called update = none_called
@@ -58,7 +58,7 @@ no_instance =
 abbrev pub instance_at : List InstanceTick → ℕ → InstanceTick
 instance_at instances k = slice_index_or instances k no_instance
 
--- the fields behind an act
+-- the fields after an act
 abbrev pub fields_after : InstanceTick → (ℕ → Bool) → Act → Cells
 fields_after i called (out j) = i.standing (with_called called j)
 fields_after i called update = i.after

@@ -43,7 +43,7 @@ call_steps = 2
 -- its own.
 module _ (local : LocalSystem) (slots : List Slot) (count : ℕ) (params : List ParamTree) where
   -- P holds in every tick: of the children and what they offer, the cycle, the tick, what the code
-  -- sees behind the children's procedures, and where its positions go
+  -- sees after the children's procedures, and where its positions go
   abbrev pub InEveryTick : (List Offer → List InstanceTick → ℕ → LocalTick → (List ℤ → Scope) →
       (StmtTrees → StmtTrees) → Type 0) → Type 0
   InEveryTick P =

@@ -1,6 +1,6 @@
 -- What is said of the code of a single node, memory, trigger, update call or reset call: the
 -- statements on which all else rests. Executed on fields of the struct's shape in which what it
--- reads stands as in the tick, it isn't stuck, makes its own field that of the run, whether the
+-- reads is as in the tick, it isn't stuck, makes its own field that of the run, whether the
 -- system is active or not, and changes nothing else.
 use Rattle.std.specs.Prelude.{◌≡◌, ℕ, ◌+◌, ◌%◌, ◌≤◌, Bool, ◌==◌, MatchBool, if◌then◌else◌, List, [], ◌∷◌, ◌++◌, map, length, count_by, slice_get, slice_index, IsTrue, Some, ℤ, pos, ⊤, Option, None}
 use Rattle.std.specs.List.{AllByRecursion, AllZip}
@@ -121,7 +121,7 @@ module _ (local : LocalSystem) (slots : List Slot) (offers : List Offer)
         slice_get slots f ≡ Some (instance k u) → slice_get u.header.outputs o ≡ Some (c, type) →
         number_at (fields_at cells f) (slice_index (offer_at offers k).places o) ≡ m.tick.value c
 
-  -- What stands before the code is executed: the fields have their shape, the trigger's memory is
+  -- What holds before the code is executed: the fields have their shape, the trigger's memory is
   -- that of the tick, each argument is the tick's, and so is each of these wires, where the system
   -- is active; else none of them is read.
   pub record IsReady (values : List ℤ) (cells : Cells) (wires : List ℕ) : Type 0 where
@@ -151,7 +151,7 @@ module _ (local : LocalSystem) (slots : List Slot) (offers : List Offer)
       OnDone (run_stmts (scope values) code before steps)
       (Leaves after (steps + most) log stored)
 
-  -- The code of row r: where it hasn't been executed and what it needs stands, it makes r's value
+  -- The code of row r: where it hasn't been executed and what it needs is ready, it makes r's value
   -- that of the tick.
   abbrev pub GivesValue : StmtTrees → ℕ → LocalRow → Type 0
   GivesValue code most r =
@@ -162,7 +162,7 @@ module _ (local : LocalSystem) (slots : List Slot) (offers : List Offer)
       Gives code values cells (set_cell cells f (number (m.tick.value r.row))) most []
       (stored_once f)
 
-  -- The code in the update that stores r's memory: where the memory and r's inputs stand, it makes
+  -- The code in the update that stores r's memory: where the memory and r's inputs are ready, it makes
   -- the memory that of the next tick.
   abbrev pub GivesMemory : StmtTrees → ℕ → LocalRow → Type 0
   GivesMemory code most r =
@@ -190,7 +190,7 @@ module _ (local : LocalSystem) (slots : List Slot) (offers : List Offer)
       [] (stored_once f)
 
   -- The code of an act on child k at field f, with the wires that the act's arguments are read
-  -- from: where the child stands where these functions were called, it brings the child behind the
+  -- from: where the child is as after calls of these functions, it leaves it as after the
   -- act if `acts` says so, else it changes nothing.
   abbrev pub GivesAct : StmtTrees → ℕ → (acts : Bool) → (f k : ℕ) (u : ChildUse) → List ℕ → Act →
       Type 0

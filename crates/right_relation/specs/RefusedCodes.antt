@@ -86,7 +86,7 @@ early_takes_old = refl
 memory_after : number_at (after_cells local high_tick [] slots) 3 ≡ pos 7
 memory_after = refl
 
--- behind the function the output is the 8 of the tick before, where it should be 5; and the
+-- after the function the output is the 8 of the tick before, where it should be 5; and the
 -- function stores no output
 idle_gives_old : LeavesNumber idle_function none_called (out 1) 2 (pos 8)
 unfolding digits

@@ -42,7 +42,7 @@ abbrev pub place_in_child : List Offer → ℕ → Slot → ℕ
 place_in_child offers o (instance k u) = slice_index (offer_at offers k).places o
 place_in_child offers o _ = 0
 
--- the system's own procedures, which are so many, stand behind what these offer
+-- the system's own procedures, which are so many, are after what these offer
 abbrev pub behind_offers : List Slot → List Offer → ℕ → Relocation
 behind_offers slots offers count =
     behind_children count (length (children_routines offers))

@@ -22,7 +22,7 @@ one_holds = refl
 four_hold : ring_list 3 (pos 7) four_taken ≡ pos 2 ∷ pos 3 ∷ pos 4 ∷ []
 four_hold = refl
 
--- the oldest at place 2, one taken, and what stands elsewhere is old
+-- the oldest at place 2, one taken, and what is elsewhere is old
 abbrev elsewhere : Ring
 elsewhere = record { items = pos 40 ∷ pos 5 ∷ pos 60 ∷ []; place = 2; taken = 1 }
 

@@ -1,6 +1,6 @@
 -- The ring of a delay of several samples: an array of so many items, the place of the oldest, and
 -- how many samples were taken since the start. Where fewer were taken than it has items, the others
--- count as the start, whatever stands in them.
+-- count as the start, whatever is in them.
 use Rattle.std.specs.Prelude.{◌≡◌, ℕ, ◌+◌, ◌-◌, ◌%◌, ◌<◌, ◌≤◌, nat_lt, if◌then◌else◌, List, map, length, replicate, slice_index_or, ℤ, pos}
 use Rattle.std.specs.List.{range_with_len}
 use Rattle.diagram_meaning.specs.Run.{moved_on}
@@ -31,7 +31,7 @@ pub record IsRing (n : ℕ) (start : ℤ) (ring : Ring) (memory : List ℤ) : Ty
 
 -- ---- How it moves
 
--- behind the start, which lets the items stand
+-- after the start, which leaves the items as they are
 abbrev pub begun_ring : List ℤ → Ring
 begun_ring items = record { items = items; place = 0; taken = 0 }
 

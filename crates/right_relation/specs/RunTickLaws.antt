@@ -26,7 +26,7 @@ CycleIsOfLocals = (r : ResolvedTree) (s : Option ℕ) (local : LocalSystem) → 
 abbrev pub AreItems : Diagram → (ℕ → List ℤ) → Type 0
 AreItems d items = (b : ℕ) → length (items b) ≡ delay_length (op_at d b)
 
--- each tick of a run is a tick for the rows of each system inside, whatever stood in the arrays of
+-- each tick of a run is a tick for the rows of each system inside, whatever was in the arrays of
 -- its rings and in its filler
 abbrev pub TicksAreLocal : Type 0
 TicksAreLocal =
@@ -37,7 +37,7 @@ TicksAreLocal =
     IsLocalTick local (tick_at (diagram_of r) s xs run n untouched t)
 
 -- and where the trace lies in its types, so does all else; round a loop of rows that copy any
--- number could stand
+-- number could be there
 abbrev pub LocalTicksAreTyped : Type 0
 LocalTicksAreTyped =
     (r : ResolvedTree) (s n : Option ℕ) (local : LocalSystem) (xs : List (List ℤ)) (run : Run)

@@ -17,7 +17,7 @@ next_ring d n m b ring =
     then moved_ring (delay_length (op_at d b)) ring (input (own_inputs d n m b) 0)
     else ring)
 
--- What stood before the start in the fields that a start lets stand: in the array of each row's
+-- What was before the start in the fields that a start leaves alone: in the array of each row's
 -- ring, and in the filler.
 pub record Untouched : Type 0 where
   pub items : ℕ → List ℤ

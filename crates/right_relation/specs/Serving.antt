@@ -17,7 +17,7 @@ act_values h cycle outer (out j) =
 act_values h cycle outer update = pos (outer.t % cycle) ∷ outer.inputs ++ outer.controls
 act_values h cycle outer reset = []
 
--- The acts that may come: a function that wasn't called, the update behind all functions, both
+-- The acts that may come: a function that wasn't called, the update after all functions, both
 -- where the system around is active; a reset where a subsystem around is off, and then nothing
 -- else.
 abbrev pub MayCome : SystemHeader → OuterTick → (ℕ → Bool) → Act → Type 0

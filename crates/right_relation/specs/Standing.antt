@@ -55,7 +55,7 @@ called_in is_active executed u j = is_active && is_call_executed u.header.row ex
 
 module _ (local : LocalSystem) (m : LocalTick) (children : List InstanceTick) where
   -- A field in the tick: an executed row has the tick's value, another that before; a memory, and
-  -- what the trigger remembers, are those before the tick; a child stands where its calls brought
+  -- what the trigger remembers, are those before the tick; a child is where its calls brought
   -- it, and where the system isn't active it has none.
   abbrev pub standing_cell : (executed : Node → Bool) (counted : List ℕ → ℤ) → Slot → Cell
   standing_cell executed counted (value r) =

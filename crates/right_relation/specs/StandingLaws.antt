@@ -94,7 +94,7 @@ OutportIsHeldAlone =
     IsTrue (held j (Row o.row))
     ↔ IsTrue (has_bit (header_function (own_header local profile) j).outputs k)
 
--- the group of a needed node stands before, or is the same
+-- the group of a needed node comes before, or is the same
 abbrev pub NeededGroupIsEarlier : Type 0
 NeededGroupIsEarlier =
     (g : NeedsGraph) (outputs class clusters : List ℕ) (groups : NodeGroups) (a b : ℕ) →

@@ -81,7 +81,7 @@ pub fn needed_is_held()
     ensures { NeededIsHeld }
 {}
 
-/// The group of a needed node stands before that of the node, or is the same.
+/// The group of a needed node comes before that of the node, or is the same.
 pub fn needed_group_is_earlier()
     ensures { NeededGroupIsEarlier }
 {}

@@ -108,7 +108,7 @@ module _ (local : LocalSystem) (slots : List Slot) (offers : List Offer) (childr
         by p v named (input n i at is_port is) reads =
             reads ∙ is ∙ of-port n i (port-at local.control inputs n i at) (sym is_port ∙ named)
 
-    -- a control behind the inputs
+    -- a control after the inputs
     control-there : (n i : ℕ) → n ≡ inputs + i → int_at (m.tick.inputs ++ m.tick.controls) n ≡ int_at m.tick.controls i
     control-there n i is =
         let same : n ≡ length m.tick.inputs + i = omega (arith, is, long) in

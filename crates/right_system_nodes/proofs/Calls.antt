@@ -102,7 +102,7 @@ module _ (local : LocalSystem) (schedule : SystemSchedule) (params : List ParamT
   few None = omega arith
   few (Some test) = omega arith
 
-  -- a procedure of a child goes behind the system's own
+  -- a procedure of a child goes after the system's own
   goes : (k i : ℕ) → moved_number away (child_base local count k + i) ≡ sum_by size (take k local.children) + i
   goes k i =
       let n = child_base local count k + i in

@@ -380,7 +380,7 @@ module _ (local : LocalSystem) (schedule : SystemSchedule) (params : List ParamT
       RingDone steps = OnDone (run_stmts (scope values) (moved_stmts away (memory_code local params r)) cells steps)
           (Leaves after_cells (steps + ring_steps) [] each_stored)
 
-      -- what stands in its three fields
+      -- what is in its three fields
       items-is : cell_at cells ring_at.items ≡ items ring.items
       items-is = (is-array n (cell_at cells ring_at.items)
           (slot-has slots cells ring_at.items (ring_items r) ready.shape items_at_field)).0

@@ -127,7 +127,7 @@ trigger_place (Enabled reset) = 0
 trigger_place (Triggered edge) = 0
 trigger_place (Both reset edge) = 1
 
--- a control stands at its place
+-- a control is at its place
 abbrev ControlAt : Control → ℕ → Port → Type 0
 ControlAt control i (Number j) = ⊥
 ControlAt control i Enable = (i ≡ 0) × (is_enabled control ≡ true)
@@ -147,7 +147,7 @@ control-at (Both reset edge) (suc (suc i)) p at = absurd (none-some p at)
 abbrev pub ports : Control → ℕ → List Port
 ports control n = map Number (range_with_len 1 n) ++ control_ports control
 
--- what stands at a place among the ports
+-- what is at a place among the ports
 abbrev pub PortAt : Control → ℕ → ℕ → Port → Type 0
 PortAt control n k (Number j) = (k < n) × (1 + k ≡ j)
 PortAt control n k Enable = (k ≡ n) × (is_enabled control ≡ true)

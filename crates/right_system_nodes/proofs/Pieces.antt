@@ -1,4 +1,4 @@
--- Each procedure of a system has the parameters that its pieces read, and so each piece is right where it stands.
+-- Each procedure of a system has the parameters that its pieces read, and so each piece is right where it is.
 use Rattle.std.specs.Prelude.{◌≡◌, ◌⊎◌, ℕ, ◌+◌, ◌-◌, ◌<◌, ◌≤◌, Bool, true, false, MatchBool, ◌||◌, ◌==◌, if◌then◌else◌, List, [], ◌∷◌, ◌++◌, map, flat_map, filter, filter_map, length, slice_get, Contains, Option, Some, None, refl}
 use Rattle.std.specs.List.{cons_option, list_any, range_with_len, enumerate_from}
 use Rattle.std.specs.Option.{option_map_or, option_and_then}

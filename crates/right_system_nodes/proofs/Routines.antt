@@ -1,4 +1,4 @@
--- The procedures that children offer stand where the code of the system around them calls them, and take what it passes on.
+-- The procedures that children offer are where the code of the system around them calls them, and take what it passes on.
 use Rattle.std.specs.Prelude.{◌≡◌, ℕ, zero, suc, ◌+◌, ◌-◌, ◌%◌, ◌^◌, ◌<◌, ◌≤◌, Bool, true, false, cond, List, [], ◌∷◌, ◌++◌, map, flat_map, filter, zip, take, sum_by, length, slice_get, Contains, Option, Some, None, ℤ, pos, int_le, ◌≤ℤ◌, refl}
 use Rattle.std.specs.List.{AllZip, range_with_len}
 use Rattle.std.proofs.Common.{sym, ap, subst, ◌∙◌, arith, true≢false}
@@ -105,7 +105,7 @@ length-offered u o is =
     let c = length-outs u o is in
     omega (arith, a, b, c)
 
--- a procedure of the child at place k stands behind those of the children before it
+-- a procedure of the child at place k is after those of the children before it
 routine-there : (us : List ChildUse) (os : List Offer) (k i : ℕ) (u : ChildUse) (o : Offer) (q : Routine) →
     AllZip (λ (u : ChildUse) o. IsOfferOf u.header o) us os →
     slice_get us k ≡ Some u → slice_get os k ≡ Some o → slice_get (offered_routines o) i ≡ Some q →

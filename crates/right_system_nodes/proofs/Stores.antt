@@ -1,4 +1,4 @@
--- What executions leave and how often they store a field; what stands in a slot's field, and which numbers it takes.
+-- What executions leave and how often they store a field; what is in a slot's field, and which numbers it takes.
 use Rattle.std.specs.Prelude.{◌≡◌, ℕ, zero, suc, ◌+◌, ◌≤◌, Bool, true, false, cond, ◌&&◌, ◌==◌, if◌then◌else◌, List, [], ◌∷◌, map, length, count_by, slice_get, Some, refl}
 use Rattle.std.proofs.Common.{sym, ap, subst, ◌∙◌, arith}
 use Rattle.std.proofs.lemmas.Bool.Decides.{nat_tests}

@@ -132,7 +132,7 @@ off-rests parent (Both reset e) memory controls is =
 
 -- ---- Sample times
 
--- the tick's number modulo a cycle tells the hit
+-- the tick's number modulo a cycle says whether it is a hit
 pub hit-is : (law : HitsAreTested) (time : Time) (now : Leaf) (t cycle : ℕ) (functions : List Function) (given : Reads) →
     given.leaf now ≡ pos (t % cycle) → 0 < cycle → cycle ≤ 2 ^ 30 → cycle % time.period ≡ 0 →
     TestIs functions given 0 true (hit_test time now) (hit time t)

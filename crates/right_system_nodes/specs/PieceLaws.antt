@@ -37,7 +37,7 @@ InEachProcedure P =
     (params : List ParamTree) →
     IsEmitted local profile schedule → HasParams local params → P local schedule params
 
--- the code of a row gives its value; that of an Inport stands where its input is a parameter
+-- the code of a row gives its value; that of an Inport is there where its input is a parameter
 abbrev pub ValuesAreGiven : Type 0
 ValuesAreGiven = InEachProcedure (λ local schedule params.
     (r : LocalRow) → Contains local.rows r → has_value r.kind ≡ true →

@@ -1,4 +1,4 @@
--- Each piece of a system's code is right in the procedure in which it stands: the code of a node in
+-- Each piece of a system's code is right in the procedure in which it is: the code of a node in
 -- its group or in the update, and that of memories, of the trigger and of children in the update.
 use Rattle.std.specs.Prelude.{◌≡◌, ℕ, true, MatchBool, List, Contains, slice_get, Some}
 use Rattle.diagram_blocks.specs.Meaning.{has_value}
@@ -63,7 +63,7 @@ module _ (local : LocalSystem) (schedule : SystemSchedule) (params : List ParamT
         IsResetCode local (code_slots local schedule) (own_count schedule) params f k u
         (reset_code local (own_count schedule) params (k, u))
 
--- all pieces are right, each where it stands
+-- all pieces are right, each where it is
 pub record HasRightPieces (local : LocalSystem) (profile : SystemProfile)
     (schedule : SystemSchedule) : Type 0 where
   pub groups : (g : ℕ) → Contains (code_groups schedule) g →

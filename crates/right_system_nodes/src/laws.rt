@@ -80,7 +80,7 @@ pub fn resets_are_acts()
     resets_are_called();
 }
 
-/// Each piece of a system's code is right in the procedure in which it stands.
+/// Each piece of a system's code is right in the procedure in which it is.
 pub fn pieces_are_right()
     ensures { EmittedPiecesAreRight }
 {

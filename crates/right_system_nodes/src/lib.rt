@@ -1,4 +1,4 @@
-//! One system: the code of each row, memory and call is right where it stands.
+//! One system: the code of each row, memory and call is right where it is.
 #![tactic(auto)]
 
 mod laws;

@@ -117,14 +117,14 @@ module _ (local : LocalSystem) (profile : SystemProfile) (schedule : SystemSched
           (x y z : ProcedureTree) → length (front ++ x ∷ y ∷ z ∷ []) ≡ own_count schedule
       last-three front long x y z = let both = length-append front (x ∷ y ∷ z ∷ []) in omega (arith, both, long)
 
-  -- an own procedure stands behind those of the children
+  -- an own procedure is after those of the children
   pub own-moves : (k : ℕ) → k < own_count schedule → moved_number m k ≡ length (bare_procedures local) + k
   own-moves k below =
       let own = own-procedures in
       ap (λ t. cond t (length (bare_procedures local) + k) (k - length (system_procedures local profile schedule)))
       (lt-ltb k (length (system_procedures local profile schedule)) (omega (arith, below, own)))
 
-  -- a child's stands where they do
+  -- a child's is where they are
   child-moves : (k i : ℕ) → moved_number m (child_base local (own_count schedule) k + i) ≡ sum_by offered (take k local.children) + i
   child-moves k i =
       let own = own-procedures in

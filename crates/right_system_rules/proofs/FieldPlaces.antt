@@ -1,4 +1,4 @@
--- What stands at each field of a system's struct: its values, memories, rings, what the trigger remembers, its children, its counters.
+-- What is at each field of a system's struct: its values, memories, rings, what the trigger remembers, its children, its counters.
 use Rattle.std.specs.Prelude.{◌≡◌, ℕ, zero, suc, ◌+◌, ◌*◌, ◌<◌, Bool, true, false, cond, if◌then◌else◌, List, [], ◌∷◌, ◌++◌, map, flat_map, length, slice_get, unwrap_or, Contains, Some}
 use Rattle.std.specs.List.{enumerate_from}
 use Rattle.std.proofs.Common.{refl, sym, ap, subst, ◌∙◌, arith}

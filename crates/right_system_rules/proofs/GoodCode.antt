@@ -12,7 +12,7 @@ use Rattle.emit_system_spec.specs.EmittedCode.{joined}
 use Rattle.right_system_rules.proofs.Moves.{Calls, CallsNothing, calls-weaker, calls-append, stmts-stay, append-moves}
 
 module _ (m : Relocation) (reach : Reach) (limit : ℕ) where
-  -- moved it is lawful behind the prelude, it calls procedures in front of a limit, and it is shallow
+  -- moved it is lawful after the prelude, it calls procedures in front of a limit, and it is shallow
   pub record IsGood (code : StmtTrees) : Type 0 where
     pub lawful : IsPrelude reach.pures → AreLawfulStmts reach (moved_stmts m code)
     pub calls : Calls (λ k. moved_number m k < limit) code

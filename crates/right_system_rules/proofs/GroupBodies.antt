@@ -138,7 +138,7 @@ module _ (local : LocalSystem) (profile : SystemProfile) (schedule : SystemSched
   reads-shallow [] = omega arith
   reads-shallow (q ∷ wanted) = let rest = reads-shallow wanted in omega (arith, rest)
 
-  -- where the groups stand first behind the children
+  -- where the groups come first after the children
   module _ (more : List ProcedureTree)
       (groups_first : later ≡ map (moved_procedure m) (map (group_procedure local profile schedule) (code_groups schedule)) ++ more) where
     call-group : (g : ℕ) → slice_get (code_groups schedule) g ≡ Some g →

@@ -1,4 +1,4 @@
--- Each group that a function calls has nodes, and stands at its number among the groups that have some.
+-- Each group that a function calls has nodes, and is at its number among the groups that have some.
 use Rattle.std.specs.Prelude.{◌≡◌, ℕ, zero, suc, ◌+◌, ◌-◌, ◌^◌, ◌<◌, ◌≤◌, Bool, true, false, not, ◌&&◌, ◌==◌, cond, List, [], ◌∷◌, filter, length, slice_get, slice_index, count_ones, bit_and, unwrap_or, Contains, Option, Some, None}
 use Rattle.std.specs.List.{range_with_len, position_from}
 use Rattle.std.specs.Option.{is_some}
@@ -47,7 +47,7 @@ some-member : (xs : List ℕ) (x : ℕ) → Contains xs x → has_some xs ≡ tr
 some-member [] x h = absurd (in-none x h)
 some-member (y ∷ ys) x h = refl
 
--- the numbers before the first that fails stand at their places
+-- the numbers before the first that fails are at their places
 kept-place : (p : ℕ → Bool) (a n g : ℕ) → ((k : ℕ) → k ≤ g → p (a + k) ≡ true) → g < n →
     slice_get (filter p (range_with_len a n)) g ≡ Some (a + g)
 kept-place p a zero g passes below = absurd (omega arith)

@@ -30,7 +30,7 @@ pub long-enumerated : {A : Type 0} (n : ℕ) (xs : List A) → length (enumerate
 long-enumerated n [] = refl
 long-enumerated n (x ∷ xs) = ap suc (long-enumerated (n + 1) xs)
 
--- ---- Members that stand at one place
+-- ---- Members that are at one place
 
 abbrev pub Apart : {A K : Type 0} → (A → K) → List A → Type 0
 Apart key [] = Unit {0}
@@ -74,7 +74,7 @@ apart-some {A} key xs ns are differ =
 
 -- ---- The place of a number
 
--- where a number is first found, and what stands there
+-- where a number is first found, and what is there
 pub record IsPlaced {A : Type 0} (key : A → ℕ) (xs : List A) (i b : ℕ) : Type 0 where
   pub place : ℕ
   pub at : A
@@ -108,7 +108,7 @@ placed {A} key (x ∷ xs) i b h = by (key x == b) refl (in-cases (key x) b (map 
           is = m.is;
         }
 
--- ---- One list behind another
+-- ---- One list after another
 
 pub at-second : {A : Type 0} (xs ys : List A) (n k : ℕ) (x : A) → length xs ≡ n → slice_get ys k ≡ Some x →
     slice_get (xs ++ ys) (n + k) ≡ Some x

@@ -1,4 +1,4 @@
--- Code that is moved behind children whose outputs stay where they are differs in the procedures that it calls alone.
+-- Code that is moved after children whose outputs stay where they are differs in the procedures that it calls alone.
 use Rattle.std.specs.Prelude.{◌≡◌, ℕ, ◌≤◌, List, map, slice_index, Option, Some, None, ℤ, ⊤}
 use Rattle.std.proofs.Common.{refl, ap, arith}
 use Rattle.c_syntax.specs.declared.Leaf.{Leaf}

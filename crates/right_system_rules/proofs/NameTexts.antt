@@ -1,4 +1,4 @@
--- Names with a number at their end, and those behind the name of a system and `_`: they are names, and tell their parts.
+-- Names with a number at their end, and those after the name of a system and `_`: they are names, and say what their parts are.
 use Rattle.std.specs.Prelude.{◌≡◌, ◌≢◌, ℕ, ◌<◌, ◌≤◌, Bool, true, false, not, ◌||◌, ◌==◌, nat_eq, List, [], ◌∷◌, ◌++◌, reverse, length, decimal, bytes_eq, codes}
 use Rattle.std.specs.List.{list_any, list_all, starts_with}
 use Rattle.std.specs.Char.{is_ascii_digit}
@@ -78,9 +78,9 @@ letter-name x n lower =
     ap (λ l. not (bytes_eq (x ∷ l) (codes "s"))) e ∙ ap not (and_right (x == 115) false refl) in
     and_from _ _ (and_from _ _ (and_from _ _ (and_from _ _ lower word) ending) keyword) s
 
--- ---- Behind `_`
+-- ---- After `_`
 
--- a suffix behind `_` that keeps a name a name
+-- a suffix after `_` that keeps a name a name
 pub record IsSuffix (suffix : List ℕ) : Type 0 where
   pub words : list_all is_word_byte suffix ≡ true
   pub ends : (front : List ℕ) → ends_with (front ++ 95 ∷ suffix) (codes "_t") ≡ false
@@ -99,7 +99,7 @@ numbered-suffix word n words = record {
   ends = λ front. ap (λ l. ends_with l (codes "_t")) (sym (append_assoc front (95 ∷ word) (decimal n))) ∙ no-ending (front ++ 95 ∷ word) n;
 }
 
--- a word that doesn't end with `_t` behind `_`
+-- a word that doesn't end with `_t` after `_`
 plain-suffix : (word : List ℕ) → list_all is_word_byte word ≡ true →
     ((front : List ℕ) → starts_with nat_eq (reverse (95 ∷ word) ++ front) (reverse (codes "_t")) ≡ false) → IsSuffix word
 plain-suffix word words ends = record {
@@ -118,7 +118,7 @@ reset-suffix = plain-suffix (codes "reset") refl (λ front. refl)
 
 -- ---- Parts of a name
 
--- the first byte of a text, and those behind it
+-- the first byte of a text, and those after it
 abbrev pub first_byte : List ℕ → ℕ
 first_byte [] = 0
 first_byte (b ∷ bs) = b
@@ -130,7 +130,7 @@ later_bytes (b ∷ bs) = bs
 abbrev pub no_bar : ℕ → Bool
 no_bar b = not (b == 95)
 
--- what stands before the first `_`, and what behind it
+-- what comes before the first `_`, and what after it
 pub parts-equal : (a b x y : List ℕ) → list_all no_bar a ≡ true → list_all no_bar b ≡ true → a ++ 95 ∷ x ≡ b ++ 95 ∷ y → (a ≡ b) × (x ≡ y)
 parts-equal [] [] x y p q e = (refl, cc e)
 parts-equal [] (c ∷ b) x y p q e = absurd (let same : 95 ≡ c = cc e in true≢false (sym (and_parts _ _ q).0 ∙ ap no_bar (sym same)))

@@ -62,7 +62,7 @@ module _ (local : LocalSystem) (profile : SystemProfile) (schedule : SystemSched
   few-inputs =
       let few = facts.emittable.inputs in let made = length-map (inports local) (λ (r : LocalRow). r.out) in omega (arith, few, made)
 
-  -- what a procedure is by itself: its head is lawful, and behind these its body
+  -- what a procedure is by itself: its head is lawful, and after these its body
   pub record IsSound (pures : List PureTree) (later : List ProcedureTree) (calls : ℕ) (p : ProcedureTree) : Type 0 where
     pub head : IsLawfulHead p.name p.params
     pub body : IsLow local profile schedule facts laws pures later (length p.params) calls p.body
@@ -117,7 +117,7 @@ module _ (local : LocalSystem) (profile : SystemProfile) (schedule : SystemSched
         (omega arith)) more refl e.1 (λ g k. facts.called e.1 g h k);
   }
 
-  -- a function stands among those of the schedule
+  -- a function is among those of the schedule
   pub of-schedule : (e : ℕ × List ℕ) → Contains (enumerate_from 1 schedule.functions) e → Contains schedule.functions e.1
   of-schedule e h = let n = of-enumerate 1 schedule.functions e h in in-at schedule.functions n.0 e.1 n.2
 

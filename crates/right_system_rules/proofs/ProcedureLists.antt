@@ -1,4 +1,4 @@
--- Lists of procedures, each lawful behind those before it, and what their heads are.
+-- Lists of procedures, each lawful after those before it, and what their heads are.
 use Rattle.std.specs.Prelude.{◌≡◌, ℕ, ◌≤◌, true, List, [], ◌∷◌, ◌++◌, map, flat_map, length, Contains, Option, Some, None}
 use Rattle.std.specs.List.{AllByRecursion, range_with_len}
 use Rattle.std.proofs.Common.{refl, sym, subst}
@@ -38,7 +38,7 @@ procedures-append pures structs earlier (p ∷ ps) qs first second = (
       (subst (λ l. AreProcedures pures structs l qs) (sym (append_assoc earlier (p ∷ []) ps)) second),
 )
 
--- each is lawful, whatever procedures with far names stand between
+-- each is lawful, whatever procedures with far names come between
 procedures-behind : (pures : List PureTree) (structs : List StructTree) (earlier more ps : List ProcedureTree) → AreFar more → AreFar ps →
     ((p : ProcedureTree) (between : List ProcedureTree) → Contains ps p → AreFar between → IsLawfulProcedure pures structs
     (earlier ++ between) p) →

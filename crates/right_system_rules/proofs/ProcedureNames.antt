@@ -36,7 +36,7 @@ use Rattle.right_system_rules.proofs.ParamNames.{is_far}
 use Rattle.right_system_rules.proofs.SystemFacts.{SystemFacts, ChildFacts, systems-apart}
 use Rattle.std.specs.List.{list_all}
 
--- ---- Behind a system's name
+-- ---- After a system's name
 
 abbrev pub behind : Option ℕ → List ℕ → List ℕ
 behind s suffix = system_name s ++ 95 ∷ suffix

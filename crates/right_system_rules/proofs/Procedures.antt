@@ -1,4 +1,4 @@
--- The procedures of a system, behind those of its children, keep the rules of C.
+-- The procedures of a system, after those of its children, keep the rules of C.
 use Rattle.std.specs.Prelude.{◌≡◌, ℕ, suc, ◌+◌, ◌<◌, true, List, [], ◌∷◌, ◌++◌, map, length}
 use Rattle.std.specs.List.{AllByRecursion, enumerate_from}
 use Rattle.std.proofs.Common.{refl, sym, ap, subst, ◌∙◌, arith}

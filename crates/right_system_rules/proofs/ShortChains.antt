@@ -31,7 +31,7 @@ front-index n [] more k all below = absurd (omega (arith, below))
 front-index n (c ∷ front) more zero all below = all.0
 front-index n (c ∷ front) more (suc k) all below = front-index n front more k all.1 (omega (arith, below))
 
--- behind chains of at most n, those of procedures that call these alone
+-- after chains of at most n, those of procedures that call these alone
 record IsLonger (n : ℕ) (front chains : List ℕ) (count : ℕ) : Type 0 where
   pub more : List ℕ
   pub is : chains ≡ front ++ more

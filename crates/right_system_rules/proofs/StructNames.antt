@@ -242,7 +242,7 @@ module _ (local : LocalSystem) (profile : SystemProfile) (schedule : SystemSched
       omega (arith, equal))
       (apart-filter (λ (g : ℕ). g) test (range_with_len 0 (length schedule.groups)) (apart-range 0 (length schedule.groups))))
 
-  -- a memory of one sample, and any other name behind it
+  -- a memory of one sample, and any other name after it
   SingleName : List ℕ → Type 0
   SingleName b = (q : LocalRow) × Contains (single_rows local) q × (b ≡ memory_name q.row)
 

@@ -74,7 +74,7 @@ pub record SystemFacts (local : LocalSystem) (profile : SystemProfile) (schedule
 
 -- ---- Names of systems
 
--- those of small rows tell them
+-- those of small rows say which they are
 pub systems-apart : (e f : ℕ) → e < 20000 → f < 20000 → system_name (Some e) ≡ system_name (Some f) → e ≡ f
 systems-apart e f low high same = decimal_injective e f (omega arith) (omega arith) (ap later_bytes same)
 

@@ -19,7 +19,7 @@ OfEmitted Holds =
     (local : LocalSystem) (profile : SystemProfile) (schedule : SystemSchedule) →
     IsEmitted local profile schedule → Holds local (system_code local profile schedule)
 
--- and behind whatever functions of the prelude
+-- and after whatever functions of the prelude
 abbrev BehindPrelude : (LocalSystem → SystemTree → List PureTree → Type 0) → Type 0
 BehindPrelude Holds =
     OfEmitted (λ local code. (pures : List PureTree) → IsPrelude pures → Holds local code pures)

@@ -1,4 +1,4 @@
--- What holds of each of a list: of lists behind one another, of mapped and of joined ones.
+-- What holds of each of a list: of lists one after another, of mapped and of joined ones.
 use Rattle.std.specs.Prelude.{◌≡◌, ℕ, ◌+◌, ◌==◌, ◌||◌, ◌⊎◌, Bool, true, false, List, [], ◌∷◌, ◌++◌, map, flat_map, filter_map, length, Contains, Option, Some, None, refl}
 use Rattle.std.specs.List.{AllByRecursion, cons_option, list_any}
 use Rattle.std.proofs.Common.{sym, ap, ◌∙◌, subst, inl, inr, true≢false}

@@ -118,7 +118,7 @@ call-from i us k j h =
         let child : e ≡ k = (let is = m.2 in cc) in
         omega (arith, same, child)
 
--- a call of a function stands once
+-- a call of a function occurs once
 call-once : (i : ℕ) (us : List ChildUse) (k j a b : ℕ) → slice_get (flat_map call_places (enumerate_from i us)) a ≡ Some (Call k j) →
     slice_get (flat_map call_places (enumerate_from i us)) b ≡ Some (Call k j) → a ≡ b
 call-once i [] k j a b e h = absurd (none-some (Call k j) e)
@@ -192,7 +192,7 @@ module _ (local : LocalSystem) (profile : SystemProfile) (schedule : SystemSched
   abbrev n : CodeNames
   n = names local schedule code
 
-  -- children of one row stand at one place
+  -- children of one row are at one place
   pub child-one : (i k e : ℕ) (u v : ChildUse) → slice_get local.children i ≡ Some u → slice_get local.children k ≡ Some v → u.header.row
       ≡ Some e → v.header.row ≡ Some e → i ≡ k
   child-one i k e u v here there is same = differ-at readable.lawful.numbers i k e readable.lawful.children_differ (number i u here is)

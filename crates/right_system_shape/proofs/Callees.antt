@@ -49,7 +49,7 @@ many-heads h =
 many-out : (h : SystemHeader) → length (out_heads h) ≡ length (header_functions h)
 many-out h = length-map-range_with_len (out_head h) 1 (length (header_functions h))
 
--- function j stands at j - 1
+-- function j is at j - 1
 pub out-at : (h : SystemHeader) (j : ℕ) → 0 < j → j ≤ length (header_functions h) → slice_get (public_heads h) (j - 1) ≡ Some (out_head h j)
 out-at h j some most =
     let at : slice_get (range_with_len 1 (length (header_functions h))) (j - 1) ≡ Some (1 + (j - 1)) =
@@ -58,7 +58,7 @@ out-at h j some most =
     at-left (out_heads h) (update_head h ∷ start_head h ∷ reset_head h ∷ []) (j - 1) (out_head h j)
     (at-map (out_head h) (range_with_len 1 (length (header_functions h))) (j - 1) j (at ∙ ap Some number))
 
--- update, start and reset stand behind
+-- update, start and reset come after
 pub behind-at : (h : SystemHeader) (i : ℕ) (head : Head) → slice_get (update_head h ∷ start_head h ∷ reset_head h ∷ []) i ≡ Some head →
     slice_get (public_heads h) (length (header_functions h) + i) ≡ Some head
 behind-at h i head e =

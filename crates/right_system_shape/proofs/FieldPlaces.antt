@@ -1,4 +1,4 @@
--- Where each slot of a system's code stands.
+-- Where each slot of a system's code is.
 use Rattle.std.specs.Prelude.{◌≡◌, ℕ, zero, suc, ◌+◌, ◌*◌, Bool, true, false, ◌==◌, cond, if◌then◌else◌, List, [], ◌∷◌, ◌++◌, map, flat_map, length, slice_get, Contains, Some, unwrap_or, refl}
 use Rattle.std.specs.List.{position_from, enumerate_from, AllZip}
 use Rattle.std.proofs.Common.{sym, ap, subst, ◌∙◌, ◌⊎◌, arith, inl, inr, true≢false}
@@ -49,7 +49,7 @@ one-row local lawful o p here there same =
     (at-map number local.rows i.0 o i.1 ∙ ap Some same) (at-map number local.rows k.0 p k.1) in
     same_Some o p (sym i.1 ∙ ap (slice_get local.rows) place ∙ k.1)
 
--- among some of the own rows, the row stands at the first place of its number
+-- among some of the own rows, the row is at the first place of its number
 place-at : (local : LocalSystem) → IsLocal local → (rows : List LocalRow) (r : LocalRow) →
     ((q : LocalRow) → Contains rows q → Contains local.rows q) →
     Contains rows r → slice_get rows (place_among rows r.row) ≡ Some r
@@ -65,7 +65,7 @@ filled-at : (xs : List Slot) (k : ℕ) (x : Slot) → slice_get xs k ≡ Some x 
 filled-at [] k x e = absurd (none-some x e)
 filled-at (y ∷ ys) k x e = e
 
--- the three slots of each ring stand together
+-- the three slots of each ring are together
 ring-at : (rows : List LocalRow) (k : ℕ) (r : LocalRow) → slice_get rows k ≡ Some r →
     (slice_get (flat_map ring_slots rows) (3 * k) ≡ Some (ring_items r)) × (slice_get (flat_map ring_slots rows) (3 * k + 1)
     ≡ Some (ring_place r)) × (slice_get (flat_map ring_slots rows) (3 * k + 2) ≡ Some (ring_taken r))

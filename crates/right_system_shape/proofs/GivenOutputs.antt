@@ -243,7 +243,7 @@ module _ (reach : NodesReachAsRows) (local : LocalSystem) (profile : SystemProfi
       let few = few-ports (diagram_of is.resolved).rows local.row is_outport (is.is_resolved.tree.table.outports local.row) in
       omega (arith, a, b, c, e, f, g, h, few)
 
-  -- where a function stands
+  -- where a function is
   position-is : (j : ℕ) (gs : List ℕ) → slice_get schedule.functions j ≡ Some gs → own_position code (out_name local.row (1 + j))
       ≡ length (code_groups schedule) + j
   position-is j gs at =

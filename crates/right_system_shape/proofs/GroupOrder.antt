@@ -1,4 +1,4 @@
--- The groups with nodes are those that functions hold, and stand first, each at its number.
+-- The groups with nodes are those that functions hold, and come first, each at its number.
 use Rattle.std.specs.Prelude.{◌≡◌, refl, ℕ, zero, suc, ◌+◌, ◌^◌, ◌<◌, ◌≤◌, Bool, true, false, not, ◌&&◌, ◌==◌, cond, List, [], ◌∷◌, map, filter, length, slice_get, slice_index, slice_index_or, bit_and, count_ones, IsBitSet, unwrap_or, Contains, Some, ◌⊎◌}
 use Rattle.std.specs.List.{position_from, range_with_len}
 use Rattle.std.proofs.Common.{sym, ap, subst, ◌∙◌, arith, inl, inr, true≢false}
@@ -185,7 +185,7 @@ module _ (local : LocalSystem) (profile : SystemProfile) (schedule : SystemSched
       ap has_some (nodes-are g below) ∙ some-in (nodes_of_group order groups g) a.0
       (in-filter (λ k. (slice_index groups.of k == g) && not (is_unheld groups g)) order a.0 ordered passes)
 
-  -- it stands at its number
+  -- it is at its number
   pub held-at : (g : ℕ) → g < length groups.holds → is_unheld groups g ≡ false → slice_get (code_groups schedule) g ≡ Some g
   held-at g below held =
       let none : 0 + g ≡ g = omega arith in

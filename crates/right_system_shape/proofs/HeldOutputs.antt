@@ -96,7 +96,7 @@ module _ (reach : NodesReachAsRows) (local : LocalSystem) (profile : SystemProfi
   out : Contains (outports local) o
   out = in-at (outports local) i o at
 
-  -- an output stands at one port
+  -- an output is at one port
   one-port : (p : ℕ) (q : LocalRow) → slice_get (outports local) p ≡ Some q → o.row ≡ q.row → i ≡ p
   one-port p q there same =
       let d = diagram_of is.resolved in

@@ -1,4 +1,4 @@
--- Each output's value stands in the field that its place names.
+-- Each output's value is in the field that its place names.
 use Rattle.std.specs.Prelude.{◌≡◌, true, ◌==◌, List, filter, find, length, map, slice_get, Contains, Some}
 use Rattle.std.specs.List.{range_with_len}
 use Rattle.std.proofs.Common.{sym, refl, true≢false}

@@ -93,7 +93,7 @@ FunctionsHaveParams local profile schedule = (j : ℕ) (gs : List ℕ) (g : ℕ)
     Contains gs g →
     Contains (group_params local profile schedule g) p → HasParam (out_head (own_header local profile) (1 + j)).params p.name
 
--- each group that a function calls stands at its number
+-- each group that a function calls is at its number
 abbrev pub GroupsStandAtNumbers : SystemSchedule → Type 0
 GroupsStandAtNumbers schedule = (j : ℕ) (gs : List ℕ) (g : ℕ) → slice_get schedule.functions j ≡ Some gs → Contains gs g →
     slice_get (code_groups schedule) g ≡ Some g

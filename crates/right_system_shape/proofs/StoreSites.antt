@@ -236,7 +236,7 @@ module _ (local : LocalSystem) (profile : SystemProfile) (schedule : SystemSched
   abbrev count : ℕ
   count = own_count schedule
 
-  -- own rows of one number stand at one place
+  -- own rows of one number are at one place
   pub place-one : (i k : ℕ) (r q : LocalRow) → slice_get local.rows i ≡ Some r → slice_get local.rows k ≡ Some q → r.row ≡ q.row → i ≡ k
   place-one i k r q here there same =
       let number : LocalRow → ℕ = λ r. r.row in

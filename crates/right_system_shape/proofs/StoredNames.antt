@@ -117,7 +117,7 @@ module _ (local : LocalSystem) (count : ℕ) (params : List ParamTree) where
   away-nodes [] = tt
   away-nodes (nth ∷ nodes) = (away-node nth, away-nodes nodes)
 
--- ---- Names stored, one procedure behind the other
+-- ---- Names stored, one procedure after the other
 
 module _ (private : ℕ → Bool) (field_name : ProcedureTree → ℕ → List ℕ) where
   abbrev all_names : List (List (List ℕ)) → List ProcedureTree → List (List (List ℕ))

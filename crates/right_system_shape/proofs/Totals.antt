@@ -1,4 +1,4 @@
--- Sums over lists, and over the nodes of a schedule, each of which stands once in a group or in the update.
+-- Sums over lists, and over the nodes of a schedule, each of which occurs once in a group or in the update.
 use Rattle.std.specs.Prelude.{◌≡◌, ◌≢◌, refl, ℕ, zero, suc, ◌+◌, ◌<◌, Bool, true, false, not, ◌&&◌, ◌==◌, cond, List, [], ◌∷◌, ◌++◌, map, flat_map, filter, count_by, length, slice_get, slice_index, Contains, Some, ◌⊎◌}
 use Rattle.std.specs.List.{range_with_len}
 use Rattle.std.proofs.Common.{sym, ap, ap₂, subst, ◌∙◌, arith, inl, inr, true≢false}
@@ -69,7 +69,7 @@ total-filter {A} f p (x ∷ xs) = by (p x) (total-filter f p xs)
     by true rest = ap (λ n. f x + n) rest
     by false rest = omega (arith, rest)
 
--- only what stands at one place counts
+-- only what is at one place counts
 pub total-only : {A : Type 0} (f : A → ℕ) (xs : List A) (k : ℕ) (x : A) → slice_get xs k ≡ Some x →
     ((i : ℕ) (y : A) → slice_get xs i ≡ Some y → i ≢ k → f y ≡ 0) → total f xs ≡ f x
 total-only f [] k x at none = absurd (none-some x at)
@@ -101,7 +101,7 @@ filter-keeps p (x ∷ xs) each =
 
 -- ---- The order of nodes
 
--- no node of an order stands among those placed before
+-- no node of an order is among those placed before
 follows-new : (g : NeedsGraph) (placed list : List ℕ) (b : ℕ) → Follows g placed list → Contains list b → Contains placed b → ⊥
 follows-new g placed [] b follows h before = in-none b h
 follows-new g placed (c ∷ list) b follows h before = elim (in-cases c b list h) [

@@ -24,7 +24,7 @@ use Rattle.emit_shape.specs.Rules.{store_reads, index_reads, test_reads, IsRight
 use Rattle.emit_system_spec.specs.EmittedCode.{joined}
 use Rattle.right_system_shape.proofs.AllOf.{all-append, all-mapped}
 
--- ---- Statements behind one another
+-- ---- Statements one after another
 
 pub stores-append : (a b : StmtTrees) → stores_in (stmts_append a b) ≡ stores_in a ++ stores_in b
 stores-append no_stmts b = refl

@@ -17,7 +17,7 @@ use Rattle.emit_system_spec.specs.Sources.{output_source, child_sources, value_s
 
 -- ---- Searches
 
--- what stands at a first place is what a search finds
+-- what is at a first place is what a search finds
 at-first : {A : Type 0} (key : A → ℕ) (c i : ℕ) (xs : List A) →
     ((find (λ x. key x == c) xs ≡ None) × (position_from (λ k. k == c) i (map key xs) ≡ None))
     ⊎ ((x : A) × (j : ℕ) × (find (λ x. key x == c) xs ≡ Some x) × (position_from (λ k. k == c) i (map key xs) ≡ Some (i + j)) ×

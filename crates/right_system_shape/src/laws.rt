@@ -13,7 +13,7 @@ pub fn struct_has_its_slots()
     ensures { StructHasItsSlots }
 {}
 
-/// The value of each output of a system stands in the field that its code names.
+/// The value of each output of a system is in the field that its code names.
 pub fn outputs_have_places()
     ensures { OutputsHavePlaces }
 {

@@ -49,7 +49,7 @@ use Rattle.right_system_starts.proofs.RenewalBudgets.{start-in-budget, reset-in-
 use Rattle.right_system_starts.proofs.TypedStarts.{starts-in, small, written-gives}
 use Rattle.right_system_starts.proofs.Lists.{at-index, zip-at, length-zip}
 
--- the own procedure at a position, behind those of the children
+-- the own procedure at a position, after those of the children
 abbrev own_procedure : LocalSystem → SystemProfile → SystemSchedule → List PureTree → List Offer → (ℕ → ℕ) → ℕ → Offered
 own_procedure local profile schedule pures offers numbers k = record {
   routine = routine_at (system_routines pures (code_slots local schedule) offers (system_code local profile schedule) numbers)
@@ -57,7 +57,7 @@ own_procedure local profile schedule pures offers numbers k = record {
   number = numbers k;
 }
 
--- where these are the procedures of the children that stand so far behind their functions
+-- where these are the procedures of the children that are so far after their functions
 module _ (local : LocalSystem) (profile : SystemProfile) (schedule : SystemSchedule) (emitted : IsEmitted local profile schedule)
     (pures : List PureTree) (numbers : ℕ → ℕ) (offers : List Offer) (are : AllZip (λ u o. IsOfferOf u.header o) local.children offers)
     (children : List Renewal)

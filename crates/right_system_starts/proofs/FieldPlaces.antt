@@ -1,4 +1,4 @@
--- The code of a start and of a reset is that of the fields one after another: each row's field stands where its number says.
+-- The code of a start and of a reset is that of the fields one after another: each row's field is where its number says.
 use Rattle.std.specs.Prelude.{◌≡◌, ℕ, zero, suc, ◌+◌, ◌*◌, ◌==◌, Bool, true, false, cond, if◌then◌else◌, List, [], ◌∷◌, ◌++◌, map, flat_map, filter, length, slice_get, Contains, Some, unwrap_or, ⊤, refl}
 use Rattle.std.specs.List.{enumerate_from, range_with_len, position_from}
 use Rattle.std.proofs.Common.{sym, ap, ◌∙◌, arith}
@@ -159,7 +159,7 @@ regrouped a b c d e g = simp append_assoc
 
 -- ---- The bodies
 
--- the procedure of a child that stands so far behind its functions, where so many are the system's own
+-- the procedure of a child that is so far after its functions, where so many are the system's own
 abbrev pub behind_functions : LocalSystem → (count : ℕ) → ℕ → ℕ → ChildUse → ℕ
 behind_functions local count i k u = child_base local count k + length (header_functions u.header) + i
 

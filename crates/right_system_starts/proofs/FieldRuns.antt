@@ -21,7 +21,7 @@ use Rattle.right_relation.specs.Instances.{Offered, OnDone}
 use Rattle.right_relation.specs.Renewals.{Renewal, renewal_at, Renews}
 use Rattle.right_system_starts.proofs.FieldCode.{field_code, fields_code, renewed_cell, renewed_cells, field_steps, fields_steps}
 
--- ---- Fields one behind the other
+-- ---- Fields one after the other
 
 abbrev pub joined_cells : Cells → Cells → Cells
 joined_cells no_cells later = later
@@ -66,7 +66,7 @@ behind-leaves log stores (stuck at left) cells n none h = h
 nothing-under : (f : ℕ) (log : List LoggedCall) → log ≡ [] → map (call_under f) log ≡ []
 nothing-under f log none = ap (map (call_under f)) none
 
--- what goes on behind a call on the instance in a field
+-- what goes on after a call on the instance in a field
 child-leaves : (f : ℕ) (cells : Cells) (o : Outcome) (inner : Cells) (m : ℕ) (go : Cells → ℕ → Outcome) (final : Cells) (n : ℕ) →
     Leaves o inner m →
     ((count : ℕ) → count ≤ m → Leaves (go (set_cell cells f (object inner)) count) final n) →

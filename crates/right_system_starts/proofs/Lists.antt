@@ -66,7 +66,7 @@ at-index [] k other x e = absurd (none-some x e)
 at-index (y ∷ xs) zero other x e = same_Some y x e
 at-index (y ∷ xs) (suc k) other x e = at-index xs k other x e
 
--- a search goes on behind what doesn't pass
+-- a search goes on after what doesn't pass
 pub position-behind : {A : Type 0} (test : A → Bool) (front behind : List A) (i : ℕ) → ((x : A) → Contains front x → test x ≡ false) →
     position_from test i (front ++ behind) ≡ position_from test (i + length front) behind
 position-behind test [] behind i none = let same : i ≡ i + 0 = omega arith in ap (λ k. position_from test k behind) same

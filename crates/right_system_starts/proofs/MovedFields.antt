@@ -1,4 +1,4 @@
--- The code of fields behind the procedures of children: only the numbers of these change.
+-- The code of fields after the procedures of children: only the numbers of these change.
 use Rattle.std.specs.Prelude.{◌≡◌, ℕ, ◌+◌, Bool, true, false, if◌then◌else◌, List, [], ◌∷◌, ◌++◌, ℤ, pos, neg_ℤ, int_lt, refl}
 use Rattle.std.proofs.Common.{ap}
 use Rattle.modules_profile.specs.declared.ChildUse.{ChildUse}

@@ -1,4 +1,4 @@
--- Where a system's start and reset stand among its own procedures, and that their calls are not logged.
+-- Where a system's start and reset are among its own procedures, and that their calls are not logged.
 use Rattle.std.specs.Prelude.{◌≡◌, ℕ, suc, ◌+◌, Bool, true, false, cond, ◌&&◌, List, [], ◌∷◌, ◌++◌, map, length, slice_get, Contains, Some, unwrap_or, codes, decimal, bytes_eq, refl}
 use Rattle.std.specs.List.{enumerate_from, position_from}
 use Rattle.std.proofs.Common.{ap, subst, ◌∙◌, arith, inl, inr}

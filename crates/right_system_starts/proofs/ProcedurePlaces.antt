@@ -1,4 +1,4 @@
--- Where procedures stand: those of the children in front, in their order, and then the system's own.
+-- Where procedures are: those of the children in front, in their order, and then the system's own.
 use Rattle.std.specs.Prelude.{◌≡◌, ℕ, zero, suc, ◌+◌, List, [], ◌∷◌, ◌++◌, take, length, slice_get, sum_by, Some, refl}
 use Rattle.std.specs.List.{AllZip, range_with_len}
 use Rattle.std.proofs.Common.{sym, ap, subst, ◌∙◌, arith}
@@ -67,7 +67,7 @@ offered-long u o is =
     let both = length-append o.outs (o.update ∷ o.start ∷ o.reset ∷ []) in
     omega (arith, outs, made, both)
 
--- what stands so far behind the functions of a child: 0 is its update, 1 its start, 2 its reset
+-- what is so far after the functions of a child: 0 is its update, 1 its start, 2 its reset
 pub offered-at : (us : List ChildUse) (offers : List Offer) → AllZip (λ u o. IsOfferOf u.header o) us offers →
     (k : ℕ) (u : ChildUse) (o : Offer) → slice_get us k ≡ Some u → slice_get offers k ≡ Some o →
     (i : ℕ) (q : Offered) → slice_get (o.update ∷ o.start ∷ o.reset ∷ []) i ≡ Some q →

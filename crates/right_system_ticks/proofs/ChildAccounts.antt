@@ -197,7 +197,7 @@ module _ (local : LocalSystem) (schedule : SystemSchedule) (children : List Inst
     child-is : (v : ChildUse) → slice_get local.children k ≡ Some v → u ≡ v
     child-is v at_v = same_Some u v (sym at ∙ at_v)
 
-    -- where the child's field stands
+    -- where the child's field is
     field-is : (f i : ℕ) (v : ChildUse) → slice_get slots f ≡ Some (instance i v) → (i ≡ k) → f ≡ child_field local k
     field-is f i v at_f same =
         let at_i = places.each f (instance i v) at_f in

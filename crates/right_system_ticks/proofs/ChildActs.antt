@@ -86,7 +86,7 @@ module _ {A : Type 0} (f : ℕ × A → Account) (act : Act) (acts : (e : ℕ ×
 
 -- ---- Calls of a child's functions
 
--- the calls of the child of this row at this place are those of nodes that weren't executed before and are behind
+-- the calls of the child of this row at this place are those of nodes that weren't executed before and are afterwards
 pub record Calls (k e : ℕ) (before behind : Node → Bool) (a : Account) : Type 0 where
   pub functions : List ℕ
   pub acts : a.acts k ≡ map out functions

@@ -227,7 +227,7 @@ module _ (schedule : SystemSchedule) where
 
 -- ---- Functions
 
--- the groups that were executed behind one function more
+-- the groups that were executed after one function more
 pub function-more : (profile : SystemProfile) (schedule : SystemSchedule) (called : ℕ → Bool) (j g : ℕ) → HasGroups profile schedule →
     0 < j →
     j ≤ length profile.functions →

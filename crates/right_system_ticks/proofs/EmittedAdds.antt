@@ -82,7 +82,7 @@ call-is local lawful k e j u at row h =
         subst (λ (w : ChildUse). (0 < j) × (j ≤ length (header_functions w.header))) one
         (omega (arith, some, function), omega (arith, most, function))
 
--- calls of nodes that weren't executed before and are behind are, in some order, those of the child's functions that pass
+-- calls of nodes that weren't executed before and are afterwards are, in some order, those of the child's functions that pass
 module _ (local : LocalSystem) (lawful : IsLocal local) (k e : ℕ) (u : ChildUse) (at : slice_get local.children k ≡ Some u)
     (row : u.header.row ≡ Some e)
     (before behind : Node → Bool) (nodes : (x : Node) → behind x ≡ true → Contains (node_list local) x) where

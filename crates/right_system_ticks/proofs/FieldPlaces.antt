@@ -1,4 +1,4 @@
--- Where the fields of a system's code stand.
+-- Where the fields of a system's code are.
 use Rattle.std.specs.Prelude.{◌≡◌, ℕ, zero, suc, ◌+◌, ◌<◌, ◌^◌, Bool, true, false, cond, IsTrue, nat_lt, List, [], ◌∷◌, ◌++◌, map, filter, length, slice_get, Contains, Some, bytes_eq, codes, decimal, refl, ⊤}
 use Rattle.std.specs.List.{AllByRecursion, range_with_len}
 use Rattle.std.proofs.Common.{sym, ap, ◌∙◌, arith}
@@ -43,9 +43,9 @@ are-slots local schedule = record {
   };
 }
 
--- ---- Members of rising lists stand once
+-- ---- Members of rising lists occur once
 
--- each is less than those behind it
+-- each is less than those after it
 abbrev Rises : List ℕ → Type 0
 Rises [] = ⊤
 Rises (x ∷ xs) = ((y : ℕ) → Contains xs y → x < y) × Rises xs

@@ -1,4 +1,4 @@
--- Groups with nodes stand first, functions call them by rising number, and a group that two of them call has a counter.
+-- Groups with nodes come first, functions call them by rising number, and a group that two of them call has a counter.
 use Rattle.std.specs.Prelude.{◌≡◌, ◌≢◌, ◌⊎◌, ℕ, zero, suc, ◌+◌, ◌-◌, ◌<◌, ◌≤◌, nat_lt, Bool, true, false, ◌==◌, cond, List, [], ◌∷◌, filter, flat_map, count_by, length, slice_get, slice_index, Contains, Some, refl}
 use Rattle.std.specs.List.{range_with_len}
 use Rattle.std.proofs.Common.{sym, ap, subst, ◌∙◌, arith, inl, inr}
@@ -64,7 +64,7 @@ kept-rising p a (suc n) = by (p a) (kept-rising p (a + 1) n)
     )
     by false later = later
 
--- ---- How often a number stands in lists
+-- ---- How often a number occurs in lists
 
 counted-yes : (t : Bool) → t ≡ true → 1 ≤ cond t 1 0
 counted-yes true e = omega arith
@@ -97,7 +97,7 @@ module _ (g : ℕ) where
       let later = times-one xss k xs at h in
       omega (arith, both, later)
 
-  -- what stands in two lists stands twice
+  -- what occurs in two lists occurs twice
   times-two : (xss : List (List ℕ)) (i k : ℕ) (xs zs : List ℕ) → i < k → slice_get xss i ≡ Some xs → slice_get xss k ≡ Some zs →
       Contains xs g → Contains zs g → 2 ≤ times (joint xss)
   times-two [] i k xs zs low at_i at_k one two = absurd (none-some xs at_i)

@@ -71,7 +71,7 @@ groups-more done (g ∷ groups) i =
     order false true c = refl
     order false false c = refl
 
--- behind a function its groups were
+-- after a function its groups were
 pub groups-called : (profile : SystemProfile) (schedule : SystemSchedule) (called : ℕ → Bool) (with_j : ℕ → Bool) (j : ℕ) →
     ((g : ℕ) → done_by schedule with_j g ≡ (calls_group schedule j g || done_by schedule called g)) →
     with_groups (done_by schedule called) (called_groups schedule j) ≡ done_by schedule with_j
@@ -96,7 +96,7 @@ pub zip-made : {A B : Type 0} (R : A → B → Type 0) (f : A → B) (xs : List 
 zip-made R f [] each = tt
 zip-made R f (x ∷ xs) each = (each x (in-first x xs), zip-made R f xs (λ y h. each y (in-rest x y xs h)))
 
--- what stands beside the first
+-- what is beside the first
 pub zip-from : {A B : Type 0} (R : A → B → Type 0) (xs : List A) (ys : List B) (n : ℕ) (x : A) → AllZip R xs ys → slice_get xs n ≡ Some x →
     (y : B) × (slice_get ys n ≡ Some y) × R x y
 zip-from R [] [] n x all at = absurd (none-some x at)
@@ -124,7 +124,7 @@ module _ (s : Scope) (x : Cells) (mv : Relocation) (params : List ParamTree) whe
 
 -- ---- Groups
 
--- behind the procedures of the children stand those of the groups, each with its number
+-- after the procedures of the children come those of the groups, each with its number
 abbrev pub SeesGroups : (local : LocalSystem) (profile : SystemProfile) (schedule : SystemSchedule) → List Offer → List PureTree → (ℕ → ℕ) →
     List Routine → Type 0
 SeesGroups local profile schedule offers pures numbers own =

@@ -32,7 +32,7 @@ use Rattle.right_system_ticks.proofs.NextNodes.{At, AreNew, are-nodes, are-new, 
 use Rattle.right_system_ticks.proofs.GroupSets.{some-bit, stands, bit-held, nodes-are, of-group, in-group, of-called, in-called, calls-of, calls-in}
 use Rattle.right_system_ticks.proofs.GivingFunctions.{class-below}
 
--- ---- Which node stands at a place
+-- ---- Which node is at a place
 
 module _ (local : LocalSystem) where
   pub node-stands : (n : ℕ) (x : Node) → At local n x → is_node_at local n x ≡ true

@@ -25,7 +25,7 @@ use Rattle.emit_system_spec.specs.Groups.{group_nodes}
 use Rattle.right_system_ticks.specs.Holding.{called_groups, calls_group}
 use Rattle.right_system_ticks.proofs.Tests.{both-true, true-both, any-in, any-of}
 
--- ---- The set of a node stands at its group
+-- ---- The set of a node is at its group
 
 has-in : (xs : List ℕ) (x : ℕ) → Contains xs x → has xs x ≡ true
 has-in [] x h = absurd (in-none x h)
@@ -83,7 +83,7 @@ none-ones = let low = ones_le_self 0 in omega (arith, low)
 -- ---- Groups
 
 module _ (sets : List ℕ) (groups : NodeGroups) (are : AreGroups sets groups) where
-  -- the set of a node stands at its group
+  -- the set of a node is at its group
   pub stands : (a : ℕ) → a < length sets →
       (slice_index groups.of a < length groups.holds) × (slice_index groups.holds (slice_index groups.of a) ≡ slice_index sets a)
   stands a below =

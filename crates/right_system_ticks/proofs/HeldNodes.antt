@@ -63,9 +63,9 @@ module _ (local : LocalSystem) (profile : SystemProfile) (schedule : SystemSched
   abbrev output : LocalRow → ℕ × FixType
   output r = (r.row, r.out)
 
-  -- ---- Where outputs stand
+  -- ---- Where outputs are
 
-  -- the node of an output stands at its place
+  -- the node of an output is at its place
   pub output-at : (i : ℕ) (o : LocalRow) → slice_get (outports local) i ≡ Some o →
       (n : ℕ) × (slice_get s.nodes.outputs i ≡ Some n) × At local n (Row o.row)
   output-at i o at =

@@ -64,7 +64,7 @@ module _ (front : List ℕ) (n : ℕ) (few : n < 2 ^ 64) (none : prefix_len is_a
   some : 0 < length (reverse (decimal n))
   some = let long = decimal_nonempty n few in let e = length-reverse (decimal n) in omega (arith, long, e)
 
-  -- what stands before the number decides
+  -- what comes before the number decides
   pub number-ends : (end : List ℕ) → ends_with_number (front ++ decimal n) end ≡ starts_with nat_eq (reverse front) (reverse end)
   number-ends end =
       ap (λ k. nat_lt 0 k && starts_with nat_eq (drop k (reverse (front ++ decimal n))) (reverse end)) count

@@ -1,4 +1,4 @@
--- Fields of which some were changed: each stands as before or as behind.
+-- Fields of which some were changed: each is as before or as after.
 use Rattle.std.specs.Prelude.{◌≡◌, ◌⊎◌, ℕ, zero, suc, Bool, true, false, ◌==◌, ◌||◌, if◌then◌else◌, List, [], ◌∷◌, map, slice_get, Contains, Some, refl}
 use Rattle.std.specs.List.{list_any}
 use Rattle.std.proofs.Common.{sym, ap, subst, ◌∙◌, inl, inr, true≢false}
@@ -24,7 +24,7 @@ none-of fields f none = not-true (is_one_of fields f) (λ h.
     let some = any-of (λ g. g == f) fields h in
     none (subst (Contains fields) (eqb-true some.0 f some.2) some.1))
 
--- ---- Numbers of fields behind the first
+-- ---- Numbers of fields after the first
 
 equal-suc : (i g : ℕ) → (suc i == suc g) ≡ (i == g)
 equal-suc i g = same-test (suc i == suc g) (i == g)

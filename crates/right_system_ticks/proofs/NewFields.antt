@@ -42,7 +42,7 @@ once-passed {A} test (x ∷ xs) once = by (test x) (once-passed test xs once.1)
     by true rest = ((λ h. once.0 (of-filter test xs x h).0), rest)
     by false rest = rest
 
--- what stands in front is there with more behind it
+-- what is in front is there with more after it
 longer : (xs ys : List ℕ) (f : ℕ) → Contains xs f → Contains (xs ++ ys) f
 longer xs ys f h = Contains-append_left xs ys f h
 

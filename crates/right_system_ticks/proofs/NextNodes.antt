@@ -19,7 +19,7 @@ use Rattle.right_system_ticks.proofs.NodesOnce.{one-node, node-itself, nodes-onc
 
 -- ---- The one order
 
--- what stands in an order is a node
+-- what is in an order is a node
 pub are-nodes : (g : NeedsGraph) (placed list : List ℕ) (b : ℕ) → Follows g placed list → Contains list b → b < g.n
 are-nodes g placed [] b follows h = absurd (in-none b h)
 are-nodes g placed (c ∷ list) b follows h = elim (in-cases c b list h) [
@@ -30,7 +30,7 @@ are-nodes g placed (c ∷ list) b follows h = elim (in-cases c b list h) [
 -- ---- One node more
 
 module _ (local : LocalSystem) where
-  -- this node stands at this place
+  -- this node is at this place
   abbrev pub At : ℕ → Node → Type 0
   At n x = slice_get (node_list local) n ≡ Some x
 
@@ -187,6 +187,6 @@ module _ (local : LocalSystem) (is : IsLocal local) (nodes : SystemNodes) (are :
         by true passes rest = (here passes, rest (with_node_at local executed b) (taken placed executed b w))
         by false fails rest = rest executed (passed placed executed b fails w)
 
-    -- where all that they need passes too or was executed, each can be executed behind those before it
+    -- where all that they need passes too or was executed, each can be executed after those before it
     pub are-next : (order : List ℕ) → Follows nodes.graph [] order → AreNext local start (filter test order)
     are-next order follows = nexts [] order start (λ a h. absurd (in-none a h)) follows begun

@@ -30,7 +30,7 @@ zip-append R [] (y ∷ ys) vs ws first second = absurd first
 zip-append R (x ∷ xs) [] vs ws first second = absurd first
 zip-append R (x ∷ xs) (y ∷ ys) vs ws first second = (first.0, zip-append R xs ys vs ws first.1 second)
 
--- what stands beside the second
+-- what is beside the second
 pub zip-at : {A B : Type 0} (R : A → B → Type 0) (xs : List A) (ys : List B) (n : ℕ) (y : B) → AllZip R xs ys → slice_get ys n ≡ Some y →
     (x : A) × (slice_get xs n ≡ Some x) × R x y
 zip-at R [] [] n y all at = absurd (none-some y at)
@@ -77,7 +77,7 @@ module _ (local : LocalSystem) where
       (rows-zip 0 local.rows (λ i r at. subst (λ n. slice_get local.rows n ≡ Some r) (omega arith) at))
       (children-zip 0 local.children (λ i u at. subst (λ n. slice_get local.children n ≡ Some u) (omega arith) at))
 
-  -- where a node stands, so does its place
+  -- where a node is, there is its place
   pub place-at : (n : ℕ) (y : Node) → slice_get (node_list local) n ≡ Some y →
       (x : Place) × (slice_get (node_places local) n ≡ Some x) × IsPlaceOf local x y
   place-at n y at = zip-at (IsPlaceOf local) (node_places local) (node_list local) n y places-zip at

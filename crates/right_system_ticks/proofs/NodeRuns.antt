@@ -60,7 +60,7 @@ pub record IsRunning (local : LocalSystem) (schedule : SystemSchedule) (offers :
   pub are_offers : AllZip (λ u o. IsOfferOf u.header o) local.children offers
 
 module _ (local : LocalSystem) (schedule : SystemSchedule) (offers : List Offer) (pures : List PureTree) (own : List Routine) where
-  -- what the body of a procedure sees, behind which these stand
+  -- what the body of a procedure sees, after which these come
   abbrev pub body_sees : List ℤ → Scope
   body_sees values = record {
     functions = pure_functions [] pures;
@@ -154,7 +154,7 @@ module _ (row_is_executed : RowIsExecuted) (call_is_executed : CallIsExecuted) (
       (running.places.children k u at) is some most executed counted counting
       (subst (IsNextNode local executed) named next) values arguments)))
 
-  -- nodes whose needs were executed, or stand before them
+  -- nodes whose needs were executed, or come before them
   pub nodes-run : (executed : Node → Bool) (nodes : List ℕ) → AreNext local executed nodes → AreNodeCodes local schedule params nodes →
       Does sees (at_it (joined (map (code_at local (own_count schedule) params) nodes))) (cells executed)
       (cells (with_nodes_at local executed nodes)) (nodes_account local m children executed nodes)

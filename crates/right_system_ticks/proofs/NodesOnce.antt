@@ -1,4 +1,4 @@
--- Each node of a system stands at one place.
+-- Each node of a system is at one place.
 use Rattle.std.specs.Prelude.{◌≡◌, ℕ, suc, ◌==◌, true, List, [], ◌∷◌, ◌++◌, map, flat_map, length, slice_get, Contains, Option, Some, None, refl}
 use Rattle.std.specs.List.{range_with_len}
 use Rattle.std.proofs.Common.{sym, ap, ◌∙◌, arith, inl, inr}
@@ -30,7 +30,7 @@ pub node-itself : (x : Node) → same_node x x ≡ true
 node-itself (Row b) = eq-eqb b b refl
 node-itself (Call e j) = true-both (e == e) (j == j) (eq-eqb e e refl) (eq-eqb j j refl)
 
--- ---- Lists in which each member stands once
+-- ---- Lists in which each member occurs once
 
 abbrev pub Once : {A : Type 0} → List A → Type 0
 Once {A} xs = (i k : ℕ) (x : A) → slice_get xs i ≡ Some x → slice_get xs k ≡ Some x → i ≡ k

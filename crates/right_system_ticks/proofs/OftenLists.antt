@@ -1,4 +1,4 @@
--- How often a number stands in a list, and lists in which each stands as often.
+-- How often a number occurs in a list, and lists in which each occurs as often.
 use Rattle.std.specs.Prelude.{◌≡◌, ◌⊎◌, ℕ, zero, suc, ◌+◌, ◌<◌, ◌≤◌, Bool, true, false, ◌==◌, if◌then◌else◌, cond, List, [], ◌∷◌, ◌++◌, filter, count_by, slice_get, IsPermutation, Some, refl}
 use Rattle.std.specs.List.{remove, range_with_len}
 use Rattle.std.proofs.Common.{sym, ap, ◌∙◌, arith, inl, inr}
@@ -28,7 +28,7 @@ bit-yes x j same = ap bit (eq-eqb x j same)
 bit-no : (x j : ℕ) → (x ≡ j → ⊥) → bit (x == j) ≡ 0
 bit-no x j apart = ap bit (ne_eqb x j apart)
 
--- what stands in a list has a place
+-- what is in a list has a place
 pub some-place : (j : ℕ) (xs : List ℕ) → 1 ≤ times j xs → (i : ℕ) × (slice_get xs i ≡ Some j)
 some-place j [] some = absurd (omega (arith, some))
 some-place j (x ∷ xs) some = by (cases_eq x j) (some-place j xs)
@@ -41,7 +41,7 @@ some-place j (x ∷ xs) some = by (cases_eq x j) (some-place j xs)
         let i = later (omega (arith, step, none, some)) in
         (suc i.0, i.1)
 
--- lists in which each number stands as often are permutations
+-- lists in which each number occurs as often are permutations
 pub as-often : (xs ys : List ℕ) → ((j : ℕ) → times j xs ≡ times j ys) → IsPermutation xs ys
 as-often [] [] same = IsPermutation-refl []
 as-often [] (y ∷ ys) same = absurd (
@@ -64,7 +64,7 @@ as-often (x ∷ xs) ys same =
     IsPermutation-trans (x ∷ xs) (x ∷ remove ys i.0) ys (IsPermutation-cons x xs (remove ys i.0) rest)
     (IsPermutation-sym ys (x ∷ remove ys i.0) out)
 
--- how often a number stands among those kept
+-- how often a number occurs among those kept
 pub kept-below : (p : ℕ → Bool) (a n j : ℕ) → j < a → times j (filter p (range_with_len a n)) ≡ 0
 kept-below p a zero j low = refl
 kept-below p a (suc n) j low = by (p a) (kept-below p (a + 1) n j (omega (arith, low)))

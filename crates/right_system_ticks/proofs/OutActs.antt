@@ -40,7 +40,7 @@ use Rattle.right_system_ticks.proofs.NodeRuns.{IsRunning, body_sees, moved}
 use Rattle.right_system_ticks.proofs.FunctionRuns.{groups-called, function-runs}
 use Rattle.right_system_ticks.proofs.OwnProcedures.{earlier-at, sees-groups, routine-is, function-at}
 
--- an outcome behind the entry of the call itself
+-- an outcome after the entry of the call itself
 pub with-entry : (entry : List LoggedCall) (o : Outcome) (steps : ℕ) (y : Cells) (a : Account) → Ends o steps y a →
     OnDone (behind entry [] o) (Leaves y (steps + (a.steps + a.inner)) (entry ++ a.log) a.stored)
 with-entry entry (done c) steps y a ends = record {

@@ -1,4 +1,4 @@
--- Of the instance itself just the call is logged: what code adds to the log stands in the children.
+-- Of the instance itself just the call is logged: what code adds to the log is in the children.
 use Rattle.std.specs.Prelude.{◌≡◌, ℕ, ◌+◌, Bool, true, false, if◌then◌else◌, List, [], ◌∷◌, ◌++◌, map, filter, slice_get, Option, Some, None, refl}
 use Rattle.std.specs.Option.{option_map_or}
 use Rattle.std.specs.List.{enumerate_from}

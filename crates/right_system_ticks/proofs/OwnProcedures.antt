@@ -1,4 +1,4 @@
--- Where the own procedures of a system's code stand among the routines of a program.
+-- Where the own procedures of a system's code are among the routines of a program.
 use Rattle.std.specs.Prelude.{◌≡◌, ℕ, suc, ◌+◌, ◌-◌, ◌<◌, ◌≤◌, List, [], ◌∷◌, ◌++◌, map, length, slice_get, slice_index_or, take, Some, refl}
 use Rattle.std.specs.List.{enumerate_from}
 use Rattle.std.proofs.Common.{sym, ap, ◌∙◌, arith}
@@ -115,13 +115,13 @@ module _ (local : LocalSystem) (profile : SystemProfile) (schedule : SystemSched
       routines ps = numbered_routines (pure_functions [] pures) (field_types (map slot_field (code_slots local schedule))) numbers 0
           (children_routines offers) ps
 
-      -- those before a place stand behind the children's
+      -- those before a place are after the children's
       pub earlier-at : (q : ℕ) → (own : List Routine) × (routines (take q moved-procedures) ≡ children_routines offers ++ own)
       earlier-at q = stand-behind (pure_functions [] pures) (field_types (map slot_field (code_slots local schedule))) numbers 0
           (children_routines offers)
           (take q moved-procedures)
 
-      -- behind all groups each group is seen
+      -- after all groups each group is seen
       pub sees-groups : (q : ℕ) → length (code_groups schedule) ≤ q → SeesGroups local profile schedule offers pures numbers
           (earlier-at q).0
       sees-groups q behind g below =

@@ -1,4 +1,4 @@
--- The procedures of a system behind those of its children: each by its number, seeing those before it.
+-- The procedures of a system after those of its children: each by its number, seeing those before it.
 use Rattle.std.specs.Prelude.{◌≡◌, ℕ, zero, suc, ◌+◌, ◌<◌, List, [], ◌∷◌, ◌++◌, length, slice_get, take, Some}
 use Rattle.std.proofs.Common.{sym, ap, subst, ◌∙◌, arith, add-zero}
 use Rattle.std.proofs.lemmas.List.{append_assoc, append-nil, get_or_append_left, length-append}
@@ -17,7 +17,7 @@ module _ (functions : List Function) (types : List CType) (numbers : ℕ → ℕ
   abbrev first : ℕ → List Routine → ProcedureTree → Routine
   first k earlier q = routine_with functions types earlier (numbers k) q
 
-  -- they stand behind the earlier ones
+  -- they are after the earlier ones
   pub stand-behind : (k : ℕ) (earlier : List Routine) (ps : List ProcedureTree) → (own : List Routine) ×
       (routines k earlier ps ≡ earlier ++ own)
   stand-behind k earlier [] = ([], sym (append-nil earlier))

@@ -92,7 +92,7 @@ module _ (h : SystemHeader) (few : length h.inputs ≤ 32) where
       let r = range-at 1 (length h.inputs) a m.0 m.1 in
       (r.0, ap Number r.1 ∙ m.2)
 
-  -- ports with one name stand at one place
+  -- ports with one name are at one place
   ports-apart : (a b : ℕ) (p q : Port) → slice_get (ports_of_header h) a ≡ Some p → slice_get (ports_of_header h) b ≡ Some q →
       port_name h.control p ≡ port_name h.control q → a ≡ b
   ports-apart a b p q at to same = by (at-append numbers (control_ports h.control) a p at)
@@ -128,7 +128,7 @@ module _ (h : SystemHeader) (few : length h.inputs ≤ 32) where
 
   -- ---- Parameters
 
-  -- what stands at a place of two lists side by side
+  -- what is at a place of two lists side by side
   of-pairs : {A B : Type 0} (xs : List A) (ys : List B) (a : ℕ) (e : A × B) → slice_get (zip xs ys) a ≡ Some e → slice_get xs a ≡ Some e.0
   of-pairs [] ys a e at = absurd (none-some e at)
   of-pairs (x ∷ xs) [] a e at = absurd (none-some e at)

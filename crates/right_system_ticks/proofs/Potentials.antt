@@ -74,7 +74,7 @@ module _ {A : Type 0} (weight : A → ℕ) where
       by true = omega arith
       by false = omega arith
 
--- a sum by places is one by what stands there
+-- a sum by places is one by what is there
 pub sum-places : {A : Type 0} (g : ℕ → ℕ) (f : A → ℕ) (a : ℕ) (xs : List A) →
     ((i : ℕ) (x : A) → slice_get xs i ≡ Some x → g (a + i) ≡ f x) →
     sum_by g (range_with_len a (length xs)) ≡ sum_by f xs

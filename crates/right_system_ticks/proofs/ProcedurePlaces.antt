@@ -48,7 +48,7 @@ both-numbered p a b c d = ap (bytes_eq (p ++ a ++ b)) (append_assoc p c d) ∙ f
 
 -- ---- Positions
 
--- what is found behind those that fail
+-- what is found after those that fail
 position-behind : {A : Type 0} (test : A → Bool) (front behind : List A) (i : ℕ) → ((x : A) → Contains front x → test x ≡ false) →
     position_from test i (front ++ behind) ≡ position_from test (i + length front) behind
 position-behind test [] behind i fails = let e : i ≡ i + 0 = omega arith in ap (λ n. position_from test n behind) e
@@ -105,7 +105,7 @@ module _ (local : LocalSystem) (profile : SystemProfile) (schedule : SystemSched
   shape : system_procedures local profile schedule ≡ groups ++ (functions ++ others)
   shape = append_assoc groups functions others
 
-  -- behind groups and functions
+  -- after groups and functions
   behind-all : (end : List ℕ) → ((g : ℕ) → bytes_eq (codes "_g" ++ decimal g) end ≡ false) →
       ((j : ℕ) → bytes_eq (codes "_out" ++ decimal j) end ≡ false) →
       position_from (has_name (system_name local.row ++ end)) 0 (system_procedures local profile schedule)

@@ -459,7 +459,7 @@ module _ (numbers_are_written : NumbersAreWritten) (local : LocalSystem) (h : Sy
       (λ k u above. level-free behind_lines (is_triggered local.control) k u refl
       (lines-free lines (with_singles singles []) k u are-lines (singles-free singles [] k u are-singles (λ f h at. in-none f h)))))
 
-  -- ---- Behind the reset
+  -- ---- After the reset
 
   stays-singles : (rs : List LocalRow) (fields : List ℕ) (f : ℕ) → Contains fields f → Contains (with_singles rs fields) f
   stays-singles [] fields f h = h

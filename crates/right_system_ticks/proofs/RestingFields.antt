@@ -1,4 +1,4 @@
--- Without an act nothing changes, and outputs stand where their functions were called.
+-- Without an act nothing changes, and outputs hold where their functions were called.
 use Rattle.std.specs.Prelude.{◌≡◌, ℕ, ◌<◌, Bool, true, false, not, ◌&&◌, ◌||◌, ◌==◌, if◌then◌else◌, List, [], ◌∷◌, map, filter, find, length, replicate, slice_get, slice_index, Contains, Some, ℤ, pos, refl}
 use Rattle.std.specs.List.{AllByRecursion, list_any, range_with_len}
 use Rattle.std.proofs.Common.{sym, ap, subst, ◌∙◌, arith, inl, inr}

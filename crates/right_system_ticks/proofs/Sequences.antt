@@ -1,4 +1,4 @@
--- Code that leaves fields and adds an account: pieces one behind another.
+-- Code that leaves fields and adds an account: pieces one after another.
 use Rattle.std.specs.Prelude.{◌≡◌, ℕ, ◌+◌, ◌≤◌, List, ◌∷◌, ◌++◌, map, refl}
 use Rattle.std.proofs.Common.{sym, ap, subst, ◌∙◌, arith}
 use Rattle.std.proofs.lemmas.List.Sums.{sum_by-append}
@@ -28,7 +28,7 @@ stores_at-append : (path : List ℕ) (field : ℕ) (xs ys : List StoredField) �
     stores_at path field (xs ++ ys) ≡ stores_at path field xs + stores_at path field ys
 stores_at-append path field xs ys = sum_by-append _ xs ys
 
--- what an execution leaves behind another
+-- what an execution leaves after another
 on-behind : (log : List LoggedCall) (stores : List StoredField) (o : Outcome) (steps : ℕ) (after : Cells) (first : List LoggedCall)
     (before : List ℕ → ℕ → ℕ) (second : List LoggedCall) (stored : List ℕ → ℕ → ℕ) (most : ℕ) → steps ≤ most → log ≡ first →
     ((path : List ℕ) (field : ℕ) → stores_at path field stores ≤ before path field) →

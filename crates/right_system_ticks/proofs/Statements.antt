@@ -17,7 +17,7 @@ use Rattle.right_relation.specs.NodeStatements.{stored_once, stored_inside}
 use Rattle.right_system_ticks.specs.CodeAccounts.{Account, takes_steps, stores, calls_child, and_then}
 use Rattle.right_system_ticks.proofs.Sequences.{Ends, Does, DoesOne}
 
--- an outcome behind one step
+-- an outcome after one step
 later : (o : Outcome) (steps : ℕ) (y : Cells) (a : Account) → Ends o (steps + 1) y a → Ends o steps y (and_then (takes_steps 1) a)
 later (done c) steps y a ends = record {
   fields = ends.fields;

@@ -129,7 +129,7 @@ module _ (row_is_executed : RowIsExecuted) (call_is_executed : CallIsExecuted) (
       ends-tick.all count
       (count-counts schedule (done_by schedule called)) fields x
 
-  -- the fields behind each part
+  -- the fields after each part
   abbrev memories : List ℕ
   memories = behind_memories standing_has_slots emptied_is_ring moved_is_ring local schedule offers children cycle m pures running
       executed ends-tick.all count

@@ -1,4 +1,4 @@
--- Behind the update each field is that of the next tick.
+-- After the update each field is that of the next tick.
 use Rattle.std.specs.Prelude.{◌≡◌, ◌⊎◌, ℕ, ◌+◌, Bool, true, false, ◌||◌, if◌then◌else◌, List, [], ◌∷◌, map, filter, flat_map, length, slice_get, Contains, IsTrue, Some, ℤ, refl}
 use Rattle.std.proofs.Common.{sym, ap, subst, ◌∙◌, arith, inl, inr, true≢false}
 use Rattle.std.proofs.lemmas.List.Elements.{Contains-append_left}
@@ -45,7 +45,7 @@ module _ (standing_has_slots : StandingHasSlots) (emptied_is_ring : EmptiedIsRin
   abbrev pub delays : List LocalRow
   delays = filter (λ r. is_delay r.op) local.rows
 
-  -- the fields behind each part of the update
+  -- the fields after each part of the update
   abbrev pub behind_memories : List ℕ
   behind_memories = with_memories local delays []
 

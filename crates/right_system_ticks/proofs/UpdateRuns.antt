@@ -1,4 +1,4 @@
--- The update: memories, children, the trigger and the counters become those of the next tick, one behind the other.
+-- The update: memories, children, the trigger and the counters become those of the next tick, one after the other.
 use Rattle.std.specs.Prelude.{◌≡◌, ℕ, zero, suc, ◌+◌, ◌<◌, ◌≤◌, Bool, true, false, not, ◌==◌, ◌||◌, ◌&&◌, if◌then◌else◌, MatchBool, List, [], ◌∷◌, map, count_by, slice_get, Contains, IsTrue, Some, ℤ, pos, refl}
 use Rattle.std.specs.List.{AllZip, enumerate_from, range_with_len}
 use Rattle.std.proofs.Common.{sym, ap, subst, ◌∙◌, arith, add-zero, true≢false}

@@ -274,7 +274,7 @@ module _ (standing_has_slots : StandingHasSlots) (emptied_is_ring : EmptiedIsRin
       Serves u.header (offer_at offers k) cycle (child_tick_of local m u) (instance_at children k)
   child-serves k u at = serves-at local m cycle local.children offers children k u running.works.serve at
 
-  -- wires hold, before and behind
+  -- wires hold, before and after
   holds-own : (fields : List ℕ) (c f : ℕ) (r : LocalRow) → slice_get slots f ≡ Some (value r) → r.row ≡ c → number_at (state fields) f
       ≡ m.tick.value c
   holds-own fields c f r at is =

@@ -71,7 +71,7 @@ module _ (local : LocalSystem) (schedule : SystemSchedule) (m : LocalTick) (chil
   abbrev Keeps : Account → Type 0
   Keeps a = a.stored [] f ≡ 0
 
-  -- the field is stored once at most, where the row wasn't executed before and is behind
+  -- the field is stored once at most, where the row wasn't executed before and is afterwards
   abbrev pub StoresOnce : (Node → Bool) → (Node → Bool) → Account → Type 0
   StoresOnce before behind a = bit (before (node.Row r.row)) + a.stored [] f ≤ bit (behind (node.Row r.row))
 

@@ -28,7 +28,7 @@ nothing_done = takes_steps 0
 abbrev pub stores : ℕ → (List ℕ → ℕ → ℕ) → Account
 stores n stored = record { steps = n; inner = 0; log = []; stored = stored; acts = no_acts }
 
--- the call of a procedure of the child at place k, whose field is at f and which stands where these
+-- the call of a procedure of the child at place k, whose field is at f and of which these
 -- were called
 abbrev pub calls_child : ℕ → (f k : ℕ) → InstanceTick → (ℕ → Bool) → Act → Account
 calls_child n f k i called act = record {
@@ -39,7 +39,7 @@ calls_child n f k i called act = record {
   acts = λ place. if place == k then act ∷ [] else [];
 }
 
--- one behind the other
+-- one after the other
 abbrev pub and_then : Account → Account → Account
 and_then a b = record {
   steps = a.steps + b.steps;

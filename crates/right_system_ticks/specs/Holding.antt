@@ -32,11 +32,11 @@ with_group done g i = (i == g) || done i
 -- ---- Nodes
 
 module _ (local : LocalSystem) where
-  -- node x stands at this place of the system's nodes
+  -- node x is at this place of the system's nodes
   abbrev pub is_node_at : ℕ → Node → Bool
   is_node_at n x = option_map_or (same_node x) (slice_get (node_list local) n) false
 
-  -- it stands at one of these
+  -- it is at one of these
   abbrev pub is_among : List ℕ → Node → Bool
   is_among nodes x = list_any (λ n. is_node_at n x) nodes
 

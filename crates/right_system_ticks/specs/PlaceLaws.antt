@@ -1,4 +1,4 @@
--- Where the fields and the procedures of a system's code stand, and what its functions pass on.
+-- Where the fields and the procedures of a system's code are, and what its functions pass on.
 use Rattle.std.specs.Prelude.{◌≡◌, ℕ, suc, ◌+◌, ◌-◌, ◌<◌, ◌≤◌, true, false, List, ◌++◌, take, sum_by, length, slice_get, Contains, IsTrue, Some, ℤ, bytes_eq, ⊤}
 use Rattle.std.specs.List.{AllZip}
 use Rattle.diagram_blocks.specs.Meaning.{has_value}
@@ -49,7 +49,7 @@ IsSlotAt local schedule f (instance k u) = slice_get local.children k ≡ Some u
 IsSlotAt local schedule f filler = ⊤
 
 -- The slots are the system's, what the code names by the number of a row, a child or a counter
--- stands there, each stands once, and no other counter has the name of one.
+-- is there, each occurs once, and no other counter has the name of one.
 pub record HasFieldPlaces (local : LocalSystem) (schedule : SystemSchedule) : Type 0 where
   pub are_slots : AreSlots local (code_slots local schedule)
   pub values : (r : LocalRow) → Contains local.rows r → has_value r.kind ≡ true →
@@ -83,7 +83,7 @@ FieldsHavePlaces = (local : LocalSystem) (profile : SystemProfile) (schedule : S
 
 -- ---- Procedures
 
--- Own procedures are found by their names: groups by number, and behind them the functions, the
+-- Own procedures are found by their names: groups by number, and after them the functions, the
 -- update and the reset.
 pub record HasProcedurePlaces (local : LocalSystem) (profile : SystemProfile)
     (schedule : SystemSchedule) : Type 0 where

@@ -1,4 +1,4 @@
--- What running a system's code rests on of its schedule: each node is executed behind all that it
+-- What running a system's code rests on of its schedule: each node is executed after all that it
 -- needs, and once.
 use Rattle.std.specs.Prelude.{◌≡◌, ◌≢◌, ℕ, ◌<◌, ◌≤◌, Bool, List, [], ◌∷◌, length, slice_get, Contains, IsTrue, IsFalse, Some}
 use Rattle.std.specs.List.{range_with_len}
@@ -38,7 +38,7 @@ AreAllDone profile schedule done =
     (j g : ℕ) → 0 < j → j ≤ length profile.functions → IsTrue (calls_group schedule j g) →
     IsTrue (done g)
 
--- each of these is less than those behind it
+-- each of these is less than those after it
 abbrev pub AreRising : List ℕ → Type 0
 AreRising [] = Unit {0}
 AreRising (g ∷ groups) = ((i : ℕ) → Contains groups i → g < i) × AreRising groups

@@ -5,7 +5,7 @@ use crate::place_laws::fields_have_places;
 use modules_profile::{header_is_of_own_rows, locals_are_lawful};
 use right_relation::{locals_are_sound, needed_group_is_earlier, outport_is_held_alone};
 
-/// The nodes of a group that wasn't executed can be executed in order, behind the groups before it.
+/// The nodes of a group that wasn't executed can be executed in order, after the groups before it.
 pub fn groups_are_next()
     ensures { GroupsAreNext }
 {
@@ -13,7 +13,7 @@ pub fn groups_are_next()
     needed_group_is_earlier();
 }
 
-/// The nodes of the update can be executed in order behind all groups, and then all nodes were.
+/// The nodes of the update can be executed in order after all groups, and then all nodes were.
 pub fn updates_end_ticks()
     ensures { UpdatesEndTicks }
 {
@@ -21,7 +21,7 @@ pub fn updates_end_ticks()
     header_is_of_own_rows();
 }
 
-/// The groups with nodes stand first, and a group that two functions call has a counter.
+/// The groups with nodes come first, and a group that two functions call has a counter.
 pub fn groups_stand_first()
     ensures { GroupsStandFirst }
 {}

@@ -5,7 +5,7 @@ use emit_system_spec::emitted_is_emittable;
 use modules_profile::{locals_are_lawful, nodes_reach_as_rows};
 use right_relation::locals_are_sound;
 
-/// What the code names by the number of a row, a child or a counter stands at its field, once.
+/// What the code names by the number of a row, a child or a counter is at its field, once.
 pub fn fields_have_places()
     ensures { FieldsHavePlaces }
 {

@@ -10,18 +10,18 @@ use tool_entry::run_tool;
 pub struct Answer {
     /// The status.
     pub status: u8,
-    /// What was put.
+    /// What was printed.
     pub text: Vec<u8>,
     /// The bytes of the files that were written, one after another.
     pub code: Vec<u8>,
     /// How many files were written.
     pub files: usize,
-    /// How many calls failed for want of memory.
+    /// How many calls ran out of memory.
     pub refused: u64,
 }
 
 impl Answer {
-    /// Whether it ended with this status, put this text, in which a `*` stands for any bytes, and wrote so many files.
+    /// Whether it ended with this status, printed this text, in which a `*` stands for any bytes, and wrote so many files.
     pub fn ended_with(&self, status: u8, text: &str, files: usize) -> bool {
         self.status == status && self.files == files && is_like(&self.text, text)
     }
@@ -40,7 +40,7 @@ fn is_like(text: &[u8], expected: &str) -> bool {
 
 /// The words of a command, which spaces part.
 ///
-/// Fails only for want of memory.
+/// Fails only when memory runs out.
 pub fn words_of(alloc: Global, line: &str) -> Result<Vec<String>, AllocError> {
     let mut words = Vec::new(alloc);
     for word in line.split(' ') {
@@ -52,7 +52,7 @@ pub fn words_of(alloc: Global, line: &str) -> Result<Vec<String>, AllocError> {
 /// How a command ends over a host with these files. The calls of the host and of the sink with these numbers, from 0, fail,
 /// and each moves so many bytes at most.
 ///
-/// Fails only for want of memory.
+/// Fails only when memory runs out.
 pub fn called_on(
     alloc: Global,
     line: &str,
@@ -82,7 +82,7 @@ pub fn called_on(
 
 /// The same over a host with the one file `a.mdl`.
 ///
-/// Fails only for want of memory.
+/// Fails only when memory runs out.
 pub fn called(
     alloc: Global,
     line: &str,
@@ -99,7 +99,7 @@ pub fn called(
 
 /// The same over a host with three files.
 ///
-/// Fails only for want of memory.
+/// Fails only when memory runs out.
 pub fn called_in_pieces(
     alloc: Global,
     line: &str,
@@ -116,7 +116,7 @@ pub fn called_in_pieces(
 
 /// The same, where a call moves 4,096 bytes at most.
 ///
-/// Fails only for want of memory.
+/// Fails only when memory runs out.
 pub fn called_with(
     alloc: Global,
     line: &str,
@@ -129,14 +129,14 @@ pub fn called_with(
 
 /// How `compile` ends on a model, where no call fails.
 ///
-/// Fails only for want of memory.
+/// Fails only when memory runs out.
 pub fn compiled(alloc: Global, model: &[u8]) -> Result<Answer, AllocError> {
     called(alloc, "compile a.mdl a.c", model, &[], &[], 4096)
 }
 
 /// How `exec` ends on code and a trace, where no call fails.
 ///
-/// Fails only for want of memory.
+/// Fails only when memory runs out.
 pub fn executed(alloc: Global, code: &[u8], trace: &[u8]) -> Result<Answer, AllocError> {
     let files = Files {
         model: b"",

@@ -1,4 +1,4 @@
-// Commands over hosts and sinks in memory of which some calls fail, as tables of tests tell of them.
+// Commands over hosts and sinks in memory of which some calls fail, as tables of tests describe them.
 
 use crate::answer::{Answer, called_in_pieces};
 use crate::files::Files;
@@ -14,7 +14,7 @@ pub const NONE: &[u64] = &[];
 /// No call fails, and each moves 4,096 bytes at most.
 pub const NO_FAULT: Faults = (NONE, NONE, 4096);
 
-/// How a command ends: the status, the text that is put, in which a `*` stands for any bytes, and how many files are
+/// How a command ends: the status, the text that is printed, in which a `*` stands for any bytes, and how many files are
 /// written.
 pub type End = (u8, &'static str, usize);
 
@@ -28,7 +28,7 @@ impl Answer {
 
 /// How a command ends over a host with three files, where these calls fail.
 ///
-/// Fails only for want of memory.
+/// Fails only when memory runs out.
 pub fn called_so(
     alloc: Global,
     line: &str,

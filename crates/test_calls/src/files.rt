@@ -14,7 +14,7 @@ pub struct Files<'a> {
 impl Files<'_> {
     /// Each with its name.
     ///
-    /// Fails only for want of memory.
+    /// Fails only when memory runs out.
     pub fn named(self, alloc: Global) -> Result<Vec<(String, Vec<u8>)>, AllocError> {
         let mut files = Vec::new(alloc);
         for (name, bytes) in [("a.mdl", self.model), ("b.c", self.code), ("t", self.trace)] {
@@ -26,7 +26,7 @@ impl Files<'_> {
 
 /// The one file `a.mdl` of a host.
 ///
-/// Fails only for want of memory.
+/// Fails only when memory runs out.
 pub fn model_file(alloc: Global, model: &[u8]) -> Result<Vec<(String, Vec<u8>)>, AllocError> {
     let mut files = Vec::new(alloc);
     files.push((String::from_str(alloc, "a.mdl")?, model.to_vec(alloc)?))?;

@@ -287,7 +287,7 @@ Port \"{port}\"
     Ok(text)
 }
 
-/// An Inport, so many Unit Delays one behind another, and an Outport, of which the later stand first in the file.
+/// An Inport, so many Unit Delays one after another, and an Outport, of which the later are first in the file.
 pub fn backward_chain(alloc: Global, count: u32) -> Result<Vec<u8>, AllocError> {
     let mut text =
         b"Model {\nSystem {\nBlock {\nBlockType Outport\nName \"o\"\nPort \"1\"\n}\n".to_vec(

@@ -65,7 +65,7 @@ fn counts_up(list: &[u32]) -> bool {
     list.iter().enumerate().all(|(k, b)| *b as usize == k)
 }
 
-/// Fails where what is told isn't what is expected.
+/// Fails where what is reported isn't what is expected.
 fn is_told(told: &str, expected: &str) -> Result<(), Fail> {
     if told == expected {
         return Ok(());

@@ -17,7 +17,7 @@ use std::alloc::Global;
 use std::test::Fail;
 use test_models::model_of;
 
-/// The text of a refusal without its end, or want of memory.
+/// The text of a refusal without its end, or that memory ran out.
 fn told_of_fault(alloc: Global, fault: &BuildFault) -> Result<Vec<u8>, Fail> {
     match fault {
         BuildFault::Refused(refusal) => {

@@ -1,12 +1,12 @@
-// What is told of models by their texts, compared with what is expected, case by case.
+// What is reported of models by their texts, compared with what is expected, case by case.
 //
-// A function `tell` gives what is told of the text of a model, as the text of its refusal; it fails for want of memory.
+// A function `tell` gives what is reported of the text of a model, as the text of its refusal; it fails when memory runs out.
 
 use crate::models::model_of;
 use std::alloc::{AllocError, Global};
 use std::test::Fail;
 
-/// Fails where what is told of some text isn't what is expected.
+/// Fails where what is reported of some text isn't what is expected.
 pub fn is_told(told: &[u8], expected: &str, text: &str) -> Result<(), Fail> {
     if told == expected.as_bytes() {
         return Ok(());
@@ -15,7 +15,7 @@ pub fn is_told(told: &[u8], expected: &str, text: &str) -> Result<(), Fail> {
     Err(Fail::new(format_args!("{told:?} is told, not {expected:?}, of {text}")))
 }
 
-/// Fails where what is told of a model of these parts isn't what is expected.
+/// Fails where what is reported of a model of these parts isn't what is expected.
 pub fn is_told_in_root<F: Fn(Global, &str) -> Result<Vec<u8>, Fail>>(
     alloc: Global,
     tell: &F,
@@ -52,7 +52,7 @@ pub fn filled(alloc: Global, frame: &str, words: &str) -> Result<String, AllocEr
     Ok(text)
 }
 
-/// Fails where what is told of one of some models isn't what is expected: each case has the words that a frame of parts
+/// Fails where what is reported of one of some models isn't what is expected: each case has the words that a frame of parts
 /// is filled with, and what is expected of a model of these parts.
 pub fn in_root<F: Fn(Global, &str) -> Result<Vec<u8>, Fail>>(
     alloc: Global,

@@ -17,7 +17,7 @@ pub fn model_of(alloc: Global, parts: &str) -> Result<String, AllocError> {
     format!(in alloc; "Model {{\n{system}}}\n")
 }
 
-/// The same with further lines behind its System, which are parted by ` / `.
+/// The same with further lines after its System, which are parted by ` / `.
 pub fn model_with(alloc: Global, parts: &str, settings: &str) -> Result<String, AllocError> {
     let mut text = String::new(alloc);
     text.push_str("Model {\n")?;

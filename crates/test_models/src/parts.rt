@@ -8,7 +8,7 @@ fn push_block(text: &mut String, words: &str) -> Result<(), AllocError> {
     text.push_str("}\n")
 }
 
-// Writes what stands before the blocks of a subsystem, as `SubSystem s`: four lines.
+// Writes what is before the blocks of a subsystem, as `SubSystem s`: four lines.
 fn push_opening(text: &mut String, words: &str) -> Result<(), AllocError> {
     text.push_str("Block {\n")?;
     push_words(text, words)?;

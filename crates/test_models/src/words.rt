@@ -17,7 +17,7 @@ fn push_pair(text: &mut String, name: &str, value: &str) -> Result<(), AllocErro
     text.push_str("\n")
 }
 
-// Writes a parameter of a block by its word: `name=value`, or a value alone, which is the block's type where it stands
+// Writes a parameter of a block by its word: `name=value`, or a value alone, which is the block's type where it is
 // first, and else its name.
 fn push_word(text: &mut String, at: usize, word: &str) -> Result<(), AllocError> {
     match word.split_once('=') {

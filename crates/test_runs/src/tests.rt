@@ -11,7 +11,7 @@ use std::alloc::Global;
 use std::test::Fail;
 use test_models::model_of;
 
-/// A model of one input, which comes a tick later behind a delay; that begins with 7.
+/// A model of one input, which comes a tick later after a delay; that begins with 7.
 const DELAYED: &str =
     "Inport a OutDataTypeStr=int32; UnitDelay d InitialCondition=7; Outport o; a 1 > d 1; d 1 > o 1";
 

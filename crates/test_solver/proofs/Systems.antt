@@ -10,7 +10,7 @@ use Rattle.diagram_meaning.specs.Diagram.{Diagram}
 use Rattle.diagram_meaning.specs.Run.{trigger_at, enable_value, trigger_value, active_in, any_off, is_disabled}
 use Rattle.diagram_meaning.proofs.lemmas.Enclosing.{enclosing-step}
 
--- how far a system stands in the table: outward it falls
+-- how far a system is in the table: outward it falls
 abbrev pub rank : Option ℕ → ℕ
 rank None = 0
 rank (Some e) = suc e

@@ -18,8 +18,8 @@ use std::alloc::Global;
 /// The values of a diagram's run over a trace, by tick and row. The diagram has no loop, and each row of the trace has just one
 /// number for each Inport of the root, by its port and in its type.
 ///
-/// The plain way, for others to be compared with: at each tick all rows are gone over until no value changes. The only fault
-/// is want of memory.
+/// The plain way, for others to be compared with: at each tick all rows are gone over until no value changes. The only error
+/// is that memory runs out.
 pub fn plain_run(alloc: Global, r: &Resolved, inputs: &[Vec<i64>]) -> Result<Vec<Vec<i64>>, Memory>
     requires no_loop { HasNoLoop (needs_of (diagram_of r.now)) }
     requires inputs { IsTrace (diagram_of r.now) None (map (λ x. x.items) inputs.now) }
@@ -35,7 +35,7 @@ pub fn plain_run(alloc: Global, r: &Resolved, inputs: &[Vec<i64>]) -> Result<Vec
     Ok(values)
 }
 
-// What stands before the first tick.
+// What is before the first tick.
 fn first_state(alloc: Global, r: &Resolved) -> Result<State, Memory>
     ensures values { IfOk result (λ first. first.values.items
         ≡ run.values_by (diagram_of r.now) None (run.start_of (diagram_of r.now))) }

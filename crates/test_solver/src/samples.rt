@@ -45,7 +45,7 @@ impl Samples {
         Ok(Samples { numbers })
     }
 
-    // The numbers without the first, and `last` behind them.
+    // The numbers without the first, and `last` after them.
     pub fn moved_on(&self, alloc: Global, last: i64) -> Result<Samples, Memory>
         ensures { IfOk result (λ s. s ≡ run.moved_on self.now last) }
     {

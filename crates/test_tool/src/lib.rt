@@ -1,4 +1,4 @@
-//! Tests of `compile`, `profile` and `gen`, and of faults at each call of every command.
+//! Tests of `compile`, `profile` and `gen`, and of errors at each call of every command.
 #![tactic(auto)]
 
 #[cfg(test)]

@@ -103,7 +103,7 @@ never-stuck at c m bytes lines from starts sticks =
     (rows-trace (diagram_of_table from.resolved) lines)).not_stuck in
     cc (sym free ∙ moved)
 
--- memory ran out behind the writing of the code
+-- memory ran out after the writing of the code
 no-more : (model code : List ℕ) (c : Compilation) (h h1 h' : HostTold) → WritesCompiled c model code h h1 →
     LeavesHost h1 h' → EndsNoMemory model code h h'
 no-more model code c h h1 h' w left = record {

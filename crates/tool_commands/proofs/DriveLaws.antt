@@ -37,7 +37,7 @@ module _ (r : ResolvedTable) (model code word script : List ℕ) (h h1 h' : Host
   drive_unwritten NoMemory ends = record { finds = (forgets-writing r model code h h1 h' accepts ends, refl); counts = refl }
   drive_unwritten _ ends = absurd ends
 
--- ---- Behind the writing of the code
+-- ---- After the writing of the code
 
 module _ (r : ResolvedTable) (c : Compilation) (s : Option ℕ) (model code word script : List ℕ) (h h1 h2 : HostTold)
     (accepts : AcceptsFile r model h h1) (named : system_named r.table.rows word ≡ Some s) (there : Contains (systems r.table.rows) s)

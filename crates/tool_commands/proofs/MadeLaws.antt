@@ -54,7 +54,7 @@ module _ (c : Compilation) (start size : ℕ) (model code : List ℕ) (h h' : Ho
       cc (sym run.bad ∙ ap (λ (types : List FixType). bad_line types (trace_text start size)) w.from.compiled.inputs
       ∙ good start size w.from.resolved w.from.verdict)
 
-  -- the line of the compilation wasn't put
+  -- the line of the compilation wasn't printed
   pub made_unput : (e : Ending) (b b' : SinkTold) → NotPut e c b b' → Ends e (Some (Gen start size model code)) h h' b b'
   made_unput PutFault b b' none =
       record { finds = inl (record { both = both-of; front = none.text; no_fault = w.no_fault }); counts = none.rose }
@@ -68,7 +68,7 @@ module _ (c : Compilation) (start size : ℕ) (model code : List ℕ) (h h' : Ho
     lined : b1 ≡ with_line b c
     lined = same-sink (with_line b c) b1 put.text put.no_fault
 
-    -- memory ran out behind the line
+    -- memory ran out after the line
     pub made_forgets : Ends NoMemory (Some (Gen start size model code)) h h' b b1
     made_forgets = record { finds = record { made = inr (both-of, inr lined); no_fault = w.no_fault }; counts = put.no_fault }
 
@@ -80,7 +80,7 @@ module _ (c : Compilation) (start size : ℕ) (model code : List ℕ) (h h' : Ho
     made_unstarted agree (IsStuck at) none = absurd (starts-right c (model_text start size) w.from none.0 at none.2.0 none.1 none.2.1)
     made_unstarted agree _ none = absurd none
 
-    -- what the machine gives behind the line is what the program gives
+    -- what the machine gives after the line is what the program gives
     ran-made : (e : Ending) (m : MachineState) (b' : SinkTold) → StartsFrom c.code m →
         RunsTo e (tree_of m) c.inputs (trace_text start size) b1 b' → RunsMade e start size model code h h' b b'
     ran-made e m b' starts run = record {

@@ -103,7 +103,7 @@ all-there (q ∷ qs) = (
 found : (p : ProgramTree) (qs : List ProcedureTree) (q : ProcedureTree) → AllByRecursion (Stands p) qs → Contains qs q → Stands p q
 found p qs q all (k, below, is) = subst (Stands p) is (place-of (Stands p) qs q k all below)
 
--- `root_step` stands among the procedures
+-- `root_step` is among the procedures
 step-stands : (p : ProgramTree) (d : Diagram) (hyper : ℕ) (root : HasRootCode p d hyper) → Stands p root.step
 step-stands p d hyper root =
     let listed : Contains (root.start ∷ root.step ∷ []) root.step = (1, omega arith, refl) in

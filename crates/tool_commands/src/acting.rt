@@ -56,12 +56,12 @@ fn run_model<H: Host, S: Sink>(
     readings_agree();
     match started(alloc, &compiled.code) {
         Ok(mut machine) => run_file(alloc, host, out, &mut machine, &compiled.inputs, trace),
-        // Right code is read and starts, so that memory alone can be wanting.
+        // Right code is read and starts, so that only memory can run out.
         Err(ending) => ending,
     }
 }
 
-// Does what a command asks for, but for the last text that is put.
+// Does what a command asks for, except for the last text that is printed.
 fn perform<H: Host, S: Sink>(alloc: Global, command: Command, host: &mut H, out: &mut S) -> Ending
     requires { HasBounds command }
     ensures ends { let at = told H.files H.rest H.given H.written H.sure H.read_faults H.write_faults in
@@ -90,7 +90,7 @@ fn perform<H: Host, S: Sink>(alloc: Global, command: Command, host: &mut H, out:
     }
 }
 
-/// Does what the words ask for, but for the last text that is put.
+/// Does what the words ask for, except for the last text that is printed.
 pub fn act<H: Host, S: Sink>(alloc: Global, words: &[String], host: &mut H, out: &mut S) -> Ending
     ensures ends { let at = told H.files H.rest H.given H.written H.sure H.read_faults H.write_faults in
         let sink = sink_told S.bytes S.faults in

@@ -19,7 +19,7 @@ use tool_endings::{Ending, compiled_line};
 use tool_generator::{generate, generate_trace};
 use tool_steps::{run_rows, started};
 
-// Writes two files whole, one behind the other.
+// Writes two files whole, one after the other.
 fn write_both<H: Host>(
     host: &mut H,
     model: &str,
@@ -72,7 +72,7 @@ fn make_into<H: Host>(
     }
 }
 
-// Puts the line of a compilation's counts.
+// Prints the line of a compilation's counts.
 fn put_line<S: Sink>(alloc: Global, out: &mut S, compiled: &Compiled) -> Result<(), Ending>
     ensures put { let sink = sink_told S.bytes S.faults in
         OnOk result (PutsWhole (line_of compiled.now) (sink out.old) (sink out.new)) }
@@ -90,7 +90,7 @@ fn put_line<S: Sink>(alloc: Global, out: &mut S, compiled: &Compiled) -> Result<
 }
 
 /// Makes the model of these two numbers into the file `model`, compiles it into the file `code`, and runs what was written over
-/// the trace that is made with it. The line of the compilation's counts is put before the lines of the ticks. No file is read.
+/// the trace that is made with it. The line of the compilation's counts is printed before the lines of the ticks. No file is read.
 pub fn generate_model<H: Host, S: Sink>(
     alloc: Global,
     host: &mut H,
@@ -117,7 +117,7 @@ pub fn generate_model<H: Host, S: Sink>(
     readings_agree();
     let mut machine = match started(alloc, &compiled.code) {
         Ok(machine) => machine,
-        // Right code is read and starts, so that memory alone can be wanting.
+        // Right code is read and starts, so that only memory can run out.
         Err(ending) => return ending,
     };
     generated_traces_are_rows();

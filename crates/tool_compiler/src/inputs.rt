@@ -54,7 +54,7 @@ fn inport_with(rows: &[Row], port: usize) -> Option<usize>
 
 /// The types of the root's inputs, by port.
 ///
-/// Fails only for want of memory.
+/// Fails only when memory runs out.
 pub(crate) fn input_types(
     alloc: Global,
     rows: &[Row],

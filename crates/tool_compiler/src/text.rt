@@ -15,7 +15,7 @@ use std::alloc::Global;
 
 /// The text of a program that is simplified, with the notes of blocks with these labels.
 ///
-/// Fails only for want of memory.
+/// Fails only when memory runs out.
 pub(crate) fn simplified_text(
     alloc: Global,
     labels: &Labels,

@@ -24,7 +24,7 @@ use Rattle.tool_driver.specs.Laws.{CallsGoOn, UpdatesGoOn}
 
 -- ---- Refusals
 
--- a fault that is none of the machine
+-- an error that is none of the machine
 abbrev pub IsRefusal : DriveFault → Type 0
 IsRefusal why = fault_unless_stuck why ≡ Some why
 

@@ -115,7 +115,7 @@ module _ (grow : ScriptsGrow) (runs : LawfulScriptsRun) (w : Driven) (before : D
       (λ a. HasOutputs w run.trace run.one.run (updates script) c a.cells) at cells is
       (answered w before script stands c run.trace run.one.run lawful run.over)
 
-  -- the fields behind one more call
+  -- the fields after one more call
   fields-more : (c : Call) (left : After) (m : MachineState) →
       call_at w (updates script) c (fields_of before.machine) ≡ done left → fields_of m ≡ left.cells →
       OnDone (start_run w.program) (λ started. LeavesFields w 0 started.cells (script ++ c ∷ []) (fields_of m))

@@ -21,7 +21,7 @@ use Rattle.tool_driver.specs.Calling.{given_with}
 one-more : (n : ℕ) → suc n ≡ n + 1
 one-more n = omega arith
 
--- two lists from a place on are their elements there, and the lists behind
+-- two lists from a place on are their elements there, and the lists after
 zip-from : {A B : Type 0} (xs : List A) (ys : List B) (k : ℕ) (x : A) (y : B) → k < length xs → k < length ys →
     zip (drop k xs) (drop k ys) ≡ (get_or xs k x, get_or ys k y) ∷ zip (drop (k + 1) xs) (drop (k + 1) ys)
 zip-from xs ys k x y in_xs in_ys =
@@ -58,7 +58,7 @@ given_skip given now xs ys k j x e inside same at past is =
     ∙ set_past (given_with given (zip (drop (j + 1) xs) (drop (j + 1) ys))) (get_or xs j x).place
     (Some (get_or ys j (pos 0))) none)
 
--- a fault at a place where there is none before is the first
+-- an error at a place where there is none before is the first
 pub fault_found : {A B : Type 0} (f : A × B → Option DriveFault) (xs : List A) (ys : List B) (k : ℕ) (x : A) (y : B)
     (fault : DriveFault) → k < length xs → k < length ys →
     x ≡ get_or xs k x → Some fault ≡ f (x, get_or ys k y) →
@@ -99,7 +99,7 @@ missing_few called k few =
     let grows : 2 ^ length (map not (drop k called)) ≤ 2 ^ 32 = pow_mono short in
     omega (arith, below, grows)
 
--- no bit of a number of 64 bits stands from 64 on
+-- no bit of a number of 64 bits is set from 64 on
 pub high_bit : (mask bit : ℕ) → mask < 2 ^ 64 → 64 ≤ bit → false ≡ has_bit mask bit
 high_bit mask bit fits high = sym (ap not (eq-eqb (bit_and mask (2 ^ bit)) 0 (and_pow mask bit
     ∙ ap (λ b. b * 2 ^ bit) (bit_at_above mask 64 bit fits high) ∙ none)))
@@ -199,7 +199,7 @@ pub take_first : {A : Type 0} (xs : List A) (v : A) → 0 < length xs → take 1
 take_first [] v some = absurd (omega arith)
 take_first (x ∷ xs) v some = refl
 
--- an argument behind those before
+-- an argument after those before
 pub arguments_more : (room values : List ℤ) (now v : ℤ) (k : ℕ) → k + 1 < length room → k < length values → v ≡ get_or values k (pos 0) →
     take (k + 1) room ≡ now ∷ take k values → take (k + 1 + 1) (set room (k + 1) v) ≡ now ∷ take (k + 1) values
 arguments_more room values now v k inside below is before =

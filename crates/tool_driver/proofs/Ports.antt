@@ -82,7 +82,7 @@ there-behind before (i ∷ all) h = (
       ≡ length (before ++ i ∷ []) = omega (arith, length-append before (i ∷ [])) in e) h.1)),
 )
 
--- each input of a shape stands at its place
+-- each input of a shape is at its place
 pub inputs-there : (s : Shape) → AreIn (inputs_of s) (inputs_of s)
 inputs-there s = there-behind [] (inputs_of s) (placed-inputs s)
 

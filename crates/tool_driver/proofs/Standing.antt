@@ -70,7 +70,7 @@ number-in p cells instance name i there has =
     ∙ ap (λ cs. number_at cs has.position) (under-at i.path cells)
     ∙ ap (λ (o : Option ℕ). number_at (cells_at i.path cells) (unwrap_or o 0)) (sym has.named)
 
--- ---- The tick behind one more call
+-- ---- The tick after one more call
 
 pub behind-more : (w : Driven) (tick : TickSoFar) (script : List Call) (c : Call) →
     tick_behind w.diagram w.system (functions_of w) tick (script ++ c ∷ [])

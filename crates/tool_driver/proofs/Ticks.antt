@@ -21,7 +21,7 @@ use Rattle.tool_driver.specs.Driven.{same_port, value_given, values_given, funct
 use Rattle.tool_driver.proofs.Lists.{all-map, all-joined, all-there, turned, get-mapped}
 use Rattle.tool_driver.proofs.Ports.{same-refl, same-eq, AreIn, AreOther, AreApart}
 
--- ---- Faults
+-- ---- Errors
 
 pub no-first : (a b : Option DriveFault) → option_or a b ≡ None → a ≡ None
 no-first None b h = refl

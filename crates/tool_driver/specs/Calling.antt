@@ -48,7 +48,7 @@ pub record Makes (plan : CallPlan) (values : List ℤ) (cost : Cost)
       (arguments before values) cost
   pub program : after.machine.program ≡ before.machine.program
 
--- a call of function j was made: the outputs that it gives are told, and the tick had it and its
+-- a call of function j was made: the outputs that it gives are reported, and the tick had it and its
 -- values
 pub record IsCallOf (j : ℕ) (values out : List ℤ) (cost : Cost)
     (before after : DriverState) : Type 0 where

@@ -121,7 +121,7 @@ functions_called count called = map (λ j. list_any (λ i. i == j) called) (rang
 abbrev pub values_given : List Input → List Given → List (Option ℤ)
 values_given inputs given = map (λ i. value_given given i.port) inputs
 
--- a driver has done in its tick what a script did behind its last update, where each input has one
+-- a driver has done in its tick what a script did after its last update, where each input has one
 -- value
 pub record HasDone (d : DriverState) (tick : TickSoFar) : Type 0 where
   pub called : d.called ≡ functions_called (length d.shape.functions) tick.called
@@ -190,7 +190,7 @@ IsDrivenOver w script xs run =
     (λ started. DrivenFrom w.program w.diagram w.hyper (path_of w) w.system
     (functions_of w) xs run 0 started.cells [] [] [] script)
 
--- what a call told is what the system gives over every trace that fits a script; an update tells
+-- what a call reported is what the system gives over every trace that fits a script; an update reports
 -- nothing
 abbrev pub Tells : Driven → List Call → Call → List ℤ → Type 0
 Tells w script (out_with j values) out =
@@ -198,13 +198,13 @@ Tells w script (out_with j values) out =
     out ≡ outputs_in w run (updates script) j
 Tells w script (update_with values) out = ⊤
 
--- a call behind a script took this, from the fields that the calls of the script leave
+-- a call after a script took this, from the fields that the calls of the script leave
 pub record TakesBehind (w : Driven) (script : List Call) (c : Call) (cost : Cost) : Type 0 where
   pub cells : Cells
   pub leaves : OnDone (start_run w.program) (λ started. LeavesFields w 0 started.cells script cells)
   pub takes : OnDone (call_at w (updates script) c cells) (λ left. cost ≡ cost_of left)
 
--- a call went on a script: the driver stands for it with the call, what it told and took is right,
+-- a call went on a script: the driver stands for it with the call, what it reported and took is right,
 -- and the calls so far are answered over each run
 pub record GoesOn (w : Driven) (script : List Call) (c : Call) (out : List ℤ) (cost : Cost)
     (after : DriverState) : Type 0 where

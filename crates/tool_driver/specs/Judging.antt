@@ -12,7 +12,7 @@ use Rattle.tool_driver.specs.declared.fault.DriveFault.TheVariants.{Twice, Early
 use Rattle.tool_driver.specs.Shapes.{inputs_of, function_inputs}
 use Rattle.tool_driver.specs.States.{DriverState}
 
--- the first fault of the elements of a list
+-- the first error of the elements of a list
 abbrev pub first_fault : {A : Type 0} → (A → Option DriveFault) → List A → Option DriveFault
 first_fault fault_of [] = None
 first_fault fault_of (x ∷ xs) = option_or (fault_of x) (first_fault fault_of xs)
@@ -73,7 +73,7 @@ abbrev pub update_fault : DriverState → List ℤ → Option DriveFault
 update_fault d values =
     option_or (early_fault d.called) (values_fault d.given (inputs_of d.shape) values)
 
--- the fault of an answer, but for a machine that is stuck
+-- the error of an answer, except for a machine that is stuck
 abbrev pub fault_unless_stuck : DriveFault → Option DriveFault
 fault_unless_stuck (Twice function) = Some (Twice function)
 fault_unless_stuck (Early missing) = Some (Early missing)

@@ -1,4 +1,4 @@
--- What a driver is told of the system that it drives, and what each of its calls takes and gives.
+-- What a driver knows of the system that it drives, and what each of its calls takes and gives.
 use Rattle.std.specs.Prelude.{ℕ, ◌+◌, List, [], ◌++◌, map, filter, length, codes, decimal}
 use Rattle.std.specs.List.{enumerate_from}
 use Rattle.base_core.specs.declared.Port.{Port}
@@ -31,7 +31,7 @@ numbered_input e = record { place = e.0; port = Number (e.0 + 1); of = e.1 }
 abbrev pub control_input : ℕ × (Port × FixType) → Input
 control_input e = record { place = e.0; port = e.1.0; of = e.1.1 }
 
--- those with these types by number, and controls behind so many
+-- those with these types by number, and controls after so many
 abbrev pub numbered_inputs : List FixType → List Input
 numbered_inputs types = map numbered_input (enumerate_from 0 types)
 

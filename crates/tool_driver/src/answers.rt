@@ -43,7 +43,7 @@ impl Driver {
     }
 
     /// A call of a function, from 1 on, with the values of its inputs by number and then of the controls that it takes. The
-    /// outputs that it gives are put into `out` by port. The result is what it took. No memory is taken.
+    /// outputs that it gives are written into `out` by port. The result is what it took. No memory is taken.
     ///
     /// # Errors
     ///

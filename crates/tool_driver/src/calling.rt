@@ -10,7 +10,7 @@ use base_core::Text;
 use c_interpreter::Machine;
 use c_syntax::{Cost, Stuck};
 
-// Puts the arguments of a call, the tick's number before the values, into the first places of a slice.
+// Writes the arguments of a call, the tick's number before the values, into the first places of a slice.
 #[tactic(auto, using(crate::proofs::LoopSteps::take_set_more))]
 fn put_arguments(tick: i64, values: &[i64], arguments: &mut [i64])
     requires { length values.now < length arguments.old }
@@ -49,7 +49,7 @@ fn number_of(machine: &Machine, instance: u32, name: &[u8]) -> i64
     machine.field(instance, name).unwrap_or(0)
 }
 
-/// Puts the numbers of the fields with these names, of an instance, into a slice.
+/// Writes the numbers of the fields with these names, of an instance, into a slice.
 pub(crate) fn put_numbers(machine: &Machine, instance: u32, names: &[Text], out: &mut [i64])
     requires { length out.old ≡ length names.now }
     ensures { out.new ≡ map (states.number_of machine.now instance) names.now }

@@ -20,7 +20,7 @@ fn counts_of(alloc: Global, plans: &[Plan]) -> Result<Vec<u32>, AllocError>
 }
 
 impl Driver {
-    /// How many inputs each function takes, its controls among them, from function 1 on. The only fault is want of memory.
+    /// How many inputs each function takes, its controls among them, from function 1 on. The only error is that memory runs out.
     pub fn input_counts(&self, alloc: Global) -> Result<Vec<u32>, AllocError>
         ensures counts { IfOk result (λ found. found.items ≡ counts.input_counts self.now.shape) }
         ensures few { length self.now.shape.functions ≤ 32 }

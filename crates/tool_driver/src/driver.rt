@@ -11,7 +11,7 @@ use std::alloc::Global;
 use std::marker::Model;
 
 /// An instance of a system in a machine, whose procedures are called one by one. It is seen as the machine, the instance,
-/// what was told of the system, the tick modulo the cycle, and what was called and given in that tick.
+/// what is known of the system, the tick modulo the cycle, and what was called and given in that tick.
 #[derive(Drop)]
 pub struct Driver {
     pub(crate) machine: Machine,
@@ -56,8 +56,8 @@ impl Model for Driver {
 }
 
 impl Driver {
-    /// A driver of an instance at the start of a tick, the first of the cycle. All memory is taken here. The only fault is
-    /// want of it.
+    /// A driver of an instance at the start of a tick, the first of the cycle. All memory is taken here. The only error is
+    /// that it runs out.
     pub(crate) fn made(
         alloc: Global,
         machine: Machine,

@@ -14,7 +14,7 @@ fn is_of_type(of: FixType, value: i64) -> bool
     least(of) <= value && value <= greatest(of)
 }
 
-// The fault of a value that is out of its input's type.
+// The error of a value that is out of its input's type.
 fn value_fault(input: &Input, value: i64) -> Option<DriveFault>
     ensures { result ≡ judging.value_fault (input.now, value) }
 {
@@ -25,7 +25,7 @@ fn value_fault(input: &Input, value: i64) -> Option<DriveFault>
     }
 }
 
-// The fault of a value where the tick has another for its input.
+// The error of a value where the tick has another for its input.
 fn unlike_fault(given: &[Option<i64>], input: &Input, value: i64) -> Option<DriveFault>
     ensures { result ≡ judging.unlike_fault given.now (input.now, value) }
 {

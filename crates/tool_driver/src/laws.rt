@@ -7,7 +7,7 @@ pub fn new_drivers_stand()
     ensures { NewDriversStand }
 {}
 
-/// A call of a function that isn't refused goes on each script that the driver stood for, tells what the system gives over
+/// A call of a function that isn't refused goes on each script that the driver stood for, reports what the system gives over
 /// every trace that fits, and is never stuck.
 pub fn calls_go_on()
     ensures { CallsGoOn }

@@ -73,7 +73,7 @@ fn numbered_inputs(alloc: Global, types: &[FixType]) -> Result<Vec<Input>, Memor
     Ok(inputs)
 }
 
-// Adds the controls, whose places begin behind so many inputs.
+// Adds the controls, whose places begin after so many inputs.
 fn push_controls(
     controls: &[(Port, FixType)],
     from: usize,

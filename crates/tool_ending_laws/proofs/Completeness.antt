@@ -64,7 +64,7 @@ complete law s (Some a) h h' b b' ends = λ calm.
     done-by s a fs comes (no_read s (Some a) h h' b b' ends calm.reads) (no_write s (Some a) h h' b b' ends calm.writes)
     (no_put s (Some a) h h' b b' ends calm.puts))
 
--- where that of reading may rise, but the status tells no fault of reading
+-- where that of reading may rise, but the status reports no error of reading
 pub done_unless_unread : StatusesAreExact → (s : ℕ) (a : Option Asked) (h h' : HostTold) (b b' : SinkTold) → EndsAt s a h h' b b' →
     OnTold a h (λ a fs. s ≢ 5 → IsCalm h.write_faults h'.write_faults → IsCalm b.faults b'.faults → CanDo a fs → IsDone s)
 done_unless_unread law s None h h' b b' ends = tt

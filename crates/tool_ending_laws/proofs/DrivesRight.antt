@@ -34,7 +34,7 @@ module _ (word script code model : List ℕ) (s : ℕ) (h h' : HostTold) (b b' :
   module _ (w : WritesDriven word code model h h') (lines : List ℕ) (before : SinkTold) (taken : Totals) (end : ScriptEnd)
       (ends : script_end (shape_of w.driven) lines ≡ end) (all : AnswersAll w.driven lines taken b.bytes before.bytes)
       (whole : PutsWhole (last_script_line taken end) before b') where
-    -- the line that was put last
+    -- the line that was printed last
     last-is : last_script_line taken end ≡ last_script_line (totals_of all.answers) (script_end (shape_of w.driven) lines)
     last-is = ap (λ (t : Totals). last_script_line t end) all.totals ∙ ap (last_script_line (totals_of all.answers)) (sym ends)
 
@@ -55,7 +55,7 @@ module _ (word script code model : List ℕ) (s : ℕ) (h h' : HostTold) (b b' :
           ∙ ap (λ (x : List ℕ). append_known b.bytes (answers_text all.answers ++ x)) last-is;
     }
 
-    -- up to the script's end, whatever the shape of the system is told to be
+    -- up to the script's end, whatever the shape of the system is said to be
     to-end : ShapesAreOne → s ≡ status_at end → DrivesSystem w.whole.resolved w.driven.system lines s code h h' b b'
     to-end shapes is =
         let r = w.whole.resolved in
@@ -90,7 +90,7 @@ module _ (word script code model : List ℕ) (s : ℕ) (h h' : HostTold) (b b' :
       for-named one v.resolved v.verdict None v.none
       (record { status = inl is; put = λ _. put_alone b before b' no_subsystem_line same whole }, λ _. written)
 
-  -- ---- Want of memory
+  -- ---- Running out of memory
 
   starved : s ≡ 10 → (r : ResolvedTable) (system : Option (Option ℕ)) → DrivesNamed r system script s code h h' b b'
   starved is r None =

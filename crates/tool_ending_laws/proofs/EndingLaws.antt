@@ -14,9 +14,9 @@ use Rattle.tool_endings.specs.Statuses.{TellsNoFault, IsPlain}
 use Rattle.tool_endings.specs.Headline.{Calm}
 use Rattle.tool_ending_laws.proofs.FaultStatuses.{only_read, only_write, only_put}
 
--- ---- The ending whose text was put
+-- ---- The ending whose text was printed
 
--- an ending that was found, and whose text was put whole
+-- an ending that was found, and whose text was printed whole
 pub record SaysFound (s : ℕ) (a : Option Asked) (h h' : HostTold) (b b' : SinkTold) : Type 0 where
   pub found : Ending
   pub before : SinkTold
@@ -24,7 +24,7 @@ pub record SaysFound (s : ℕ) (a : Option Asked) (h h' : HostTold) (b b' : Sink
   pub status : s ≡ status_of found
   pub whole : PutsWhole (text_of found) before b'
 
--- so a call ends, but where memory runs out or something isn't put
+-- so a call ends, but where memory runs out or something isn't printed
 pub says_found : (s : ℕ) (a : Option Asked) (h h' : HostTold) (b b' : SinkTold) → EndsAt s a h h' b b' → s ≢ 7 →
     s ≢ 10 → SaysFound s a h h' b b'
 says_found s a h h' b b' e put fed = by e.found e.said e.before e.ends e.says e.puts
@@ -41,9 +41,9 @@ says_found s a h h' b b' e put fed = by e.found e.said e.before e.ends e.says e.
     by found said before ends (inr none) (inl (is, whole)) = absurd (fed (is ∙ ap status_of none.0))
     by found said before ends says (inr (seven, part)) = absurd (put seven)
 
--- ---- Counts of faults
+-- ---- Counts of errors
 
--- but for faults, no count of the host rose
+-- except for errors, no count of the host rose
 host-calm : (e : Ending) (a : Option Asked) (h h' : HostTold) (b b' : SinkTold) → Finds e a h h' b b' → IsFaultless e → NoFault h h'
 host-calm (Compiled rows systems functions) None h h' b b' ends plain = absurd ends.0
 host-calm (Compiled rows systems functions) (Some (Compile model code)) h h' b b' ends plain = ends.0.no_fault
@@ -129,7 +129,7 @@ host-calm NoMemory (Some (Profile model)) h h' b b' ends plain = ends.0.no_fault
 host-calm NoMemory (Some (Drive model code word script)) h h' b b' ends plain = ends.0.no_fault
 host-calm NoMemory (Some (Gen start size model code)) h h' b b' ends plain = ends.no_fault
 
--- no fault of putting was counted but where a line wasn't put
+-- no error of printing was counted but where a line wasn't printed
 same-puts : (e : Ending) (b b' : SinkTold) → e ≢ PutFault → CountsPuts e b b' → b'.faults ≡ b.faults
 same-puts PutFault b b' other counts = absurd (other refl)
 same-puts _ b b' other counts = counts
@@ -141,7 +141,7 @@ faultless-end e calm = record {
   no_put_fault = λ same. calm.no_put_fault (ap status_of same);
 }
 
--- with a status that tells no fault, none was found
+-- with a status that reports no error, none was found
 found-faultless : (found said : Ending) (s : ℕ) (b b' : SinkTold) → IsSaidOf said found → Puts said s b b' → TellsNoFault s →
     IsFaultless found × (b'.faults ≡ b.faults)
 found-faultless found said s b b' (inl same) (inl (is, whole)) calm =
@@ -156,7 +156,7 @@ no_count s a h h' b b' e calm =
     let host : NoFault h h' = host-calm e.found a h h' b e.before e.ends.finds f.0 in
     (host.read, host.write, f.1 ∙ same-puts e.found b e.before f.0.no_put_fault e.ends.counts)
 
--- ---- Faults are counted
+-- ---- Errors are counted
 
 read-rose : (a : Option Asked) (h h' : HostTold) (b b' : SinkTold) → Finds ReadFault a h h' b b' → Rose h.read_faults h'.read_faults
 read-rose None h h' b b' ends = absurd ends.0
@@ -185,7 +185,7 @@ write-rose (Some (Exec code trace)) h h' b b' ends = absurd ends
 write-rose (Some (Profile model)) h h' b b' ends = absurd ends.0
 write-rose _ h h' b b' ends = ends.0.rose
 
--- a count that rose behind the lines rose in the call
+-- a count that rose after the lines rose in the call
 rises : (e : Ending) (b before : SinkTold) (now : ℕ) → CountsPuts e b before → Rose before.faults now → Rose b.faults now
 rises PutFault b before now counts rose = omega (arith, counts, rose)
 rises _ b before now counts rose = omega (arith, counts, rose)
@@ -232,7 +232,7 @@ no_write s a h h' b b' e calm six = not-calm h.write_faults h'.write_faults (wri
 pub no_put : (s : ℕ) (a : Option Asked) (h h' : HostTold) (b b' : SinkTold) → EndsAt s a h h' b b' → IsCalm b.faults b'.faults → s ≢ 7
 no_put s a h h' b b' e calm seven = not-calm b.faults b'.faults (put_fault s a h h' b b' e seven) calm
 
--- then the status is no fault's
+-- then the status is no error's
 pub calm_plain : (s : ℕ) (a : Option Asked) (h h' : HostTold) (b b' : SinkTold) → EndsAt s a h h' b b' → Calm h h' b b' → s ≢ 10 → IsPlain s
 calm_plain s a h h' b b' e calm fed = record {
   no_read_fault = no_read s a h h' b b' e calm.reads;

@@ -1,4 +1,4 @@
--- The statuses of faults are those of one ending each.
+-- The statuses of errors are those of one ending each.
 use Rattle.std.proofs.Common.{◌≡◌, ℕ, inl, inr, refl, sym, ap, ◌∙◌, arith}
 use Rattle.tool_endings.specs.declared.ending.Ending.{Ending}
 use Rattle.tool_endings.specs.declared.ending.Ending.TheVariants.{ReadFault, WriteFault, PutFault}
@@ -20,7 +20,7 @@ pub only_put : (e : Ending) → status_of e ≡ 7 → e ≡ PutFault
 only_put PutFault is = refl
 only_put _ is = absurd (omega (arith, is))
 
--- status 5 is given only where the ending was a fault of reading
+-- status 5 is given only where the ending was an error of reading
 pub five_is_read_fault : (found said : Ending) (s : ℕ) (b b' : SinkTold) → IsSaidOf said found → Puts said s b b' → s ≡ 5 →
     found ≡ ReadFault
 five_is_read_fault found said s b b' (inl same) (inl (is, whole)) five = sym same ∙ only_read said (sym is ∙ five)

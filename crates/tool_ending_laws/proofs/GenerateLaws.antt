@@ -33,7 +33,7 @@ module _ (start size : ℕ) (model code : List ℕ) (h h' : HostTold) (w : Write
   abbrev given : Rows
   given = rows_over w.right.code.program types (trace_text start size)
 
-  -- the compiled line and what the run puts
+  -- the compiled line and what the run prints
   both-texts : (b before b' : SinkTold) (bad : Option BadLine) (last : List ℕ) → given.stuck_place ≡ None →
       bad_line types (trace_text start size) ≡ bad → last ≡ last_line given.ticks None bad →
       PutsTicks given.ticks (with_line b w.compilation) before → PutsWhole last before b' →

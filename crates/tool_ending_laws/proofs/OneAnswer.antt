@@ -1,4 +1,4 @@
--- A model has one verdict, a text one program or one fault, and what is asked for comes to one status.
+-- A model has one verdict, a text one program or one error, and what is asked for comes to one status.
 use Rattle.std.proofs.Common.{◌≡◌, ℕ, inl, inr, List, [], ◌∷◌, map, refl, sym, ap, subst, ◌∙◌, arith}
 use Rattle.std.specs.Prelude.{Option, Some, None, IsSomeAnd}
 use Rattle.base_refusals.specs.Refusals.{PlainRefusal}

@@ -16,7 +16,7 @@ use Rattle.tool_endings.proofs.lemmas.Files.{known_file, named}
 use Rattle.tool_ending_laws.proofs.OneAnswer.{OneVerdict, accepted_only, same_resolution}
 use Rattle.tool_ending_laws.proofs.PutTexts.{put_alone, tells_refusal, refusal_unsaid}
 
--- the report was made and put
+-- the report was made and printed
 reported : OneVerdict → (text model : List ℕ) (s : ℕ) (h h' : HostTold) (b before b' : SinkTold) → s ≡ 0 →
     h'.written ≡ h.written → before ≡ b → PutsWhole text before b' → IsReportOf model text → Profiles model s h h' b b'
 reported one text model s h h' b before b' is written same whole report = record {

@@ -1,4 +1,4 @@
--- What is put, of the texts one behind another, and of refusals.
+-- What is printed, of the texts one after another, and of refusals.
 use Rattle.std.proofs.Common.{◌≡◌, ℕ, inl, inr, List, ◌++◌, refl, sym, ap, ◌∙◌, append_assoc, arith}
 use Rattle.std.specs.Prelude.{Option, Some, None}
 use Rattle.std.specs.Io.KnownBytes.{append_known}
@@ -16,7 +16,7 @@ use Rattle.tool_endings.specs.Endings.{PutsWhole}
 use Rattle.tool_endings.specs.Headline.{TellsRefusal, last_line, run_text}
 use Rattle.tool_ending_laws.proofs.OneAnswer.{OneVerdict, same_refusal}
 
--- ---- Texts one behind another
+-- ---- Texts one after another
 
 pub put_both : (o : Option (List ℕ)) (x y : List ℕ) → append_known (append_known o x) y ≡ append_known o (x ++ y)
 put_both None x y = refl
@@ -28,11 +28,11 @@ put-run : (b before b' : SinkTold) (ticks : List TickRow) (last : List ℕ) → 
 put-run b before b' ticks last first then =
     then.text ∙ ap (λ (o : Option (List ℕ)). append_known o last) first ∙ put_both b.bytes (ticks_text ticks) last
 
--- a text behind nothing
+-- a text after nothing
 pub put_alone : (b before b' : SinkTold) (text : List ℕ) → before ≡ b → PutsWhole text before b' → b'.bytes ≡ append_known b.bytes text
 put_alone b before b' text same whole = whole.text ∙ ap (λ (x : SinkTold). append_known x.bytes text) same
 
--- what a run puts, by where it is stuck and by its first bad line
+-- what a run prints, by where it is stuck and by its first bad line
 text-by : (p : ProgramTree) (types : List FixType) (lines : List ℕ) (place : Option Stuck) (bad : Option BadLine) →
     (rows_over p types lines).stuck_place ≡ place → bad_line types lines ≡ bad →
     ticks_text (rows_over p types lines).ticks ++ last_line (rows_over p types lines).ticks place bad
@@ -43,7 +43,7 @@ text-by p types lines place bad free good =
     (sym (ap (λ (x : Option Stuck). last_line rows.ticks x (bad_line types lines)) free
     ∙ ap (last_line rows.ticks place) good))
 
--- the lines of ticks and the last line are what a run puts
+-- the lines of ticks and the last line are what a run prints
 pub run_lines : (p : ProgramTree) (types : List FixType) (lines : List ℕ) (b before b' : SinkTold)
     (place : Option Stuck) (bad : Option BadLine) (last : List ℕ) → (rows_over p types lines).stuck_place ≡ place →
     bad_line types lines ≡ bad → last ≡ last_line (rows_over p types lines).ticks place bad →

@@ -1,4 +1,4 @@
--- Where a host is sure just of the files that are there, a fault of reading tells that one that is needed is not.
+-- Where a host is sure just of the files that are there, an error of reading says that one that is needed is not.
 use Rattle.std.proofs.Common.{◌≡◌, ◌≢◌, ℕ, ◌⊎◌, inl, inr, List, refl, sym, ap, subst, ◌∙◌, arith}
 use Rattle.std.specs.Prelude.{false, Option, Some, None, IsSomeAnd, is_some}
 use Rattle.std.proofs.lemmas.Bool.Decides.{eqb_tells}

@@ -176,7 +176,7 @@ executed agree bytes trace s h h' b b' x written over = record {
       (λ lines. Tells (status_over q x.types lines) (run_text q x.types lines) s b b')) same over);
 }
 
--- what is told of a run that was not stuck, or stuck in one of its ticks
+-- what is reported of a run that was not stuck, or stuck in one of its ticks
 told-run : (p : ProgramTree) (types : List FixType) (lines : List ℕ) (s : ℕ) (b before b' : SinkTold)
     (place : Option Stuck) (bad : Option BadLine) → (rows_over p types lines).stuck_place ≡ place →
     bad_line types lines ≡ bad → s ≡ run_status place bad → PutsTicks (rows_over p types lines).ticks b before →
@@ -321,7 +321,7 @@ does one agree shapes e s (Some (Drive model code word script)) h h' b before b'
 does one agree shapes e s (Some (Gen start size model code)) h h' b before b' ends plain is whole =
     generate_does one e s start size model code h h' b before b' ends plain is whole
 
--- want of memory, whatever was found
+-- running out of memory, whatever was found
 starved : (e : Ending) (s : ℕ) (a : Option Asked) (h h' : HostTold) (b before b' : SinkTold) → s ≡ 10 →
     Finds e a h h' b before → Does s a h h' b b'
 starved e s None h h' b before b' is ends = tt

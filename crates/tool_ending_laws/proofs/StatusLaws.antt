@@ -33,11 +33,11 @@ use Rattle.tool_ending_laws.specs.Laws.{StatusesAreExact, EachIsExact}
 use Rattle.tool_ending_laws.proofs.EndingLaws.{SaysFound, says_found}
 use Rattle.tool_ending_laws.proofs.OneAnswer.{OneVerdict, comes-one}
 
--- where the files are told, the status that is no fault's is that to which the command comes
+-- where the files are reported, the status that is no error's is that to which the command comes
 abbrev pub ComesTo : ℕ → Asked → HostTold → Type 0
 ComesTo n a h = IfTold h.files h.rest (λ fs. IsPlain n → Comes a fs n)
 
--- a status that a fault or want of memory gives
+-- a status that an error or running out of memory gives
 not-plain : (n : ℕ) (a : Asked) (h : HostTold) → (IsPlain n → ⊥) → ComesTo n a h
 not-plain n a h fault = told_any h.files h.rest (λ fs plain. absurd (fault plain))
 
@@ -247,7 +247,7 @@ comes-to shapes e (Gen start size model code) h h' b b' ends = generating-comes 
 
 -- ---- Exactly
 
--- of a status that a fault or want of memory gives nothing is said
+-- of a status that an error or running out of memory gives nothing is said
 unplain : (s : ℕ) (a : Asked) (h : HostTold) → (IsPlain s → ⊥) → OnTold (Some a) h (ComesExactly s)
 unplain s a h fault =
     told_any h.files h.rest (λ fs. record { only = λ plain. absurd (fault plain); wherever = λ n also plain. absurd (fault plain) })
@@ -269,7 +269,7 @@ comes_exactly one agree shapes s (Some a) h h' b b' e = by e.found e.said e.befo
     by found said before finds (inr none) (inl (is, whole)) = unplain s a h (λ plain. plain.no_want_of_memory (is ∙ ap status_of none.0))
     by found said before finds says (inr (seven, part)) = unplain s a h (λ plain. plain.no_put_fault seven)
 
--- the same of one status that no fault gives
+-- the same of one status that no error gives
 exactly-by : (n s : ℕ) (a : Option Asked) (h : HostTold) → IsPlain n → OnTold a h (ComesExactly s) →
     OnTold a h (λ a fs. IsExactly n s (Comes a fs n))
 exactly-by n s None h plain all = tt

@@ -12,8 +12,8 @@ use Rattle.tool_endings.specs.Statuses.{TellsNoFault, IsExactly, Comes, ComesExa
 use Rattle.tool_endings.specs.Headline.{WritesNothing, DoesRight}
 use Rattle.tool_endings.specs.Completeness.{CanDo, IsComplete, IsSureOf, LacksOne}
 
--- so it is with the status of each call, what was asked for, and what the host and the sink told
--- before it and behind it
+-- so it is with the status of each call, what was asked for, and what the host and the sink reported
+-- before it and after it
 abbrev pub OnEach :
     (ℕ → Option Asked → HostTold → HostTold → SinkTold → SinkTold → Type 0) → Type 0
 OnEach Holds =
@@ -49,7 +49,7 @@ pub record EachIsExact : Type 0 where
   pub no_program : IsExactAt 8
   pub stuck : IsExactAt 9
 
--- status 5 is given only where the ending that was found is a fault of reading
+-- status 5 is given only where the ending that was found is an error of reading
 abbrev pub FiveIsReadFault : Type 0
 FiveIsReadFault = (found said : Ending) (s : ℕ) (b b' : SinkTold) → IsSaidOf said found →
     Puts said s b b' → s ≡ 5 → found ≡ ReadFault
@@ -67,15 +67,15 @@ abbrev pub FiveIsNeeded : Type 0
 FiveIsNeeded = OnEach (λ s a h h' b b'. OnTold a h (λ a fs. s ≡ 5 → SureOfThere h fs →
     IsNeeded a fs))
 
--- ---- Counts of faults
+-- ---- Counts of errors
 
--- a status that tells a fault comes with one that was counted
+-- a status that reports an error comes with one that was counted
 pub record FaultsAreCounted : Type 0 where
   pub read : OnEach (λ s a h h' b b'. s ≡ 5 → Rose h.read_faults h'.read_faults)
   pub write : OnEach (λ s a h h' b b'. s ≡ 6 → Rose h.write_faults h'.write_faults)
   pub put : OnEach (λ s a h h' b b'. s ≡ 7 → Rose b.faults b'.faults)
 
--- and with one that tells none no count rose
+-- and with one that reports none no count rose
 abbrev pub FaultlessIsCalm : Type 0
 FaultlessIsCalm = OnEach (λ s a h h' b b'. TellsNoFault s →
     (h'.read_faults ≡ h.read_faults) × (h'.write_faults ≡ h.write_faults)
@@ -87,7 +87,7 @@ FaultlessIsCalm = OnEach (λ s a h h' b b'. TellsNoFault s →
 abbrev pub AreComplete : Type 0
 AreComplete = OnEach IsComplete
 
--- the same where only that of reading may rise, and the status tells no fault of reading
+-- the same where only that of reading may rise, and the status reports no error of reading
 abbrev pub SureAreDone : Type 0
 SureAreDone = OnEach (λ s a h h' b b'. OnTold a h (λ a fs. s ≢ 5 →
     IsCalm h.write_faults h'.write_faults → IsCalm b.faults b'.faults → CanDo a fs → IsDone s))

@@ -4,7 +4,7 @@ use c_reading_laws::readings_agree;
 use diagram_verdict::one_verdict;
 use tool_system_driver::shapes_are_one;
 
-/// Where no count of faults rises, what a call does is right for what was asked for.
+/// Where no count of errors rises, what a call does is right for what was asked for.
 pub fn endings_do_right()
     ensures { DoRight }
 {
@@ -23,7 +23,7 @@ pub fn usage_is_exact()
     ensures { UsageIsExact }
 {}
 
-/// But for faults and want of memory, the status is that to which what is asked for comes.
+/// Except for errors and out of memory, the status is that to which what is asked for comes.
 pub fn statuses_are_exact()
     ensures { StatusesAreExact }
 {
@@ -39,7 +39,7 @@ pub fn each_status_is_exact()
     statuses_are_exact();
 }
 
-/// Status 5 comes only where the ending that was found is a fault of reading.
+/// Status 5 comes only where the ending that was found is an error of reading.
 pub fn five_is_read_fault()
     ensures { FiveIsReadFault }
 {}
@@ -52,24 +52,24 @@ pub fn five_is_needed()
     readings_agree();
 }
 
-/// Status 5, 6 and 7 come only with a fault of reading, writing or putting that was counted.
+/// Status 5, 6 and 7 come only with an error of reading, writing or printing that was counted.
 pub fn faults_are_counted()
     ensures { FaultsAreCounted }
 {}
 
-/// With a status that tells no fault, no count of faults rose.
+/// With a status that reports no error, no count of errors rose.
 pub fn faultless_is_calm()
     ensures { FaultlessIsCalm }
 {}
 
-/// Where no count of faults rises, what can be done is done, unless memory runs out.
+/// Where no count of errors rises, what can be done is done, unless memory runs out.
 pub fn endings_are_complete()
     ensures { AreComplete }
 {
     statuses_are_exact();
 }
 
-/// The same where that of reading may rise, but the status tells no fault of reading.
+/// The same where that of reading may rise, but the status reports no error of reading.
 pub fn sure_are_done()
     ensures { SureAreDone }
 {

@@ -30,7 +30,7 @@ use Rattle.tool_endings.specs.Endings.{PutsPart, Ends}
 
 -- ---- Compiling a model into a file
 
--- the model of this name was compiled, and its code written whole; of what the host tells to read,
+-- the model of this name was compiled, and its code written whole; of what the host reports to read,
 -- nothing is left
 pub record WritesCompiled (c : Compilation) (model_name code_name : List ℕ)
     (h h' : HostTold) : Type 0 where
@@ -49,7 +49,7 @@ NotCompiled e model code h h' = EndsCompile e model code h h'
 
 -- ---- Accepting a model, and writing its code
 
--- the model of this name is accepted; of what the host tells to read, nothing is left
+-- the model of this name is accepted; of what the host reports to read, nothing is left
 pub record AcceptsFile (r : ResolvedTable) (name : List ℕ) (h h' : HostTold) : Type 0 where
   pub model : OnBytes h name (λ bytes. HasVerdict bytes (Accepted r))
   pub files : h'.files ≡ h.files
@@ -90,7 +90,7 @@ NotWritten _ r code h h' = ⊥
 
 -- ---- Reading C and starting it
 
--- a machine behind its `root_start`
+-- a machine after its `root_start`
 abbrev pub IsBehindStart : MachineState → Type 0
 IsBehindStart m =
     (after : After) × (start_run (tree_of m) ≡ done after) × (fields_of m ≡ after.cells)
@@ -118,13 +118,13 @@ pub record WritesMade (c : Compilation) (start size : ℕ) (model code : List �
   pub written : h'.written ≡ add_file (add_file h.written model (model_text start size)) code c.code
   pub no_fault : NoFault h h'
 
--- it wasn't, and the call ends with nothing put
+-- it wasn't, and the call ends with nothing printed
 abbrev pub NotMade : Ending → (start size : ℕ) → (model code : List ℕ) → HostTold → HostTold →
     Type 0
 NotMade e start size model code h h' =
     (b : SinkTold) → Ends e (Some (Gen start size model code)) h h' b b
 
--- why the line of a compilation wasn't put whole
+-- why the line of a compilation wasn't printed whole
 abbrev pub NotPut : Ending → Compilation → SinkTold → SinkTold → Type 0
 NotPut PutFault c b b' = PutsPart (line_of c) b b'
 NotPut NoMemory c b b' = PutsNothing b b'
@@ -132,7 +132,7 @@ NotPut _ c b b' = ⊥
 
 -- ---- Running a trace
 
--- how a run of a program over these bytes ends; memory runs out before anything is put
+-- how a run of a program over these bytes ends; memory runs out before anything is printed
 abbrev pub RowsEnd : Ending → ProgramTree → List FixType → List ℕ → SinkTold → SinkTold → Type 0
 RowsEnd NoMemory p types bytes b b' = PutsNothing b b'
 RowsEnd e p types bytes b b' = RunsTo e p types bytes b b'
@@ -144,7 +144,7 @@ pub record RunsFile (e : Ending) (p : ProgramTree) (types : List FixType) (trace
   pub end : ReadsToEnd e h'
   pub left : LeavesHost h h'
 
--- a fault of reading the trace: it isn't opened, and nothing was put, or the lines of all whole
+-- an error of reading the trace: it isn't opened, and nothing was printed, or the lines of all whole
 -- lines among what was taken were
 pub record MissesFile (p : ProgramTree) (types : List FixType) (trace : List ℕ) (h h' : HostTold)
     (b b' : SinkTold) : Type 0 where
@@ -152,7 +152,7 @@ pub record MissesFile (p : ProgramTree) (types : List FixType) (trace : List ℕ
   pub written : h'.written ≡ h.written
   pub lines : OpensNothing 0 h h' b b' ⊎ TakesFile 0 p types trace h h' b b'
 
--- memory ran out, before anything was read or put
+-- memory ran out, before anything was read or printed
 pub record ForgetsFile (h h' : HostTold) (b b' : SinkTold) : Type 0 where
   pub left : LeavesHost h h'
   pub silent : PutsNothing b b'
@@ -177,7 +177,7 @@ pub record DrivesFile (e : Ending) (w : Driven) (script : List ℕ) (h h' : Host
   pub end : ReadsToEnd e h'
   pub left : LeavesHost h h'
 
--- a fault of reading the script: it isn't opened, and nothing was put, or the lines of all whole
+-- an error of reading the script: it isn't opened, and nothing was printed, or the lines of all whole
 -- lines among what was taken were
 pub record MissesScript (w : Driven) (script : List ℕ) (h h' : HostTold)
     (b b' : SinkTold) : Type 0 where

@@ -67,14 +67,14 @@ CanDo (Drive model code word script) fs =
     × CanDrive r (system_named r.table.rows word) (lookup script fs))
 CanDo (Gen start size model code) fs = OnAccepted (model_text start size) (λ d. ⊤)
 
--- What can be done is done, unless memory runs out, where no count of faults rises or stands at its
+-- What can be done is done, unless memory runs out, where no count of errors rises or is at its
 -- greatest value.
 abbrev pub IsComplete : ℕ → Option Asked → (h h' : HostTold) (b b' : SinkTold) → Type 0
 IsComplete s a h h' b b' = Calm h h' b b' → OnTold a h (λ a fs. CanDo a fs → IsDone s)
 
 -- ---- Files that a host is sure of
 
--- the file that is read first, if one is, and the one that is read behind it
+-- the file that is read first, if one is, and the one that is read after it
 abbrev pub first_file : Asked → Option (List ℕ)
 first_file (Compile model code) = Some model
 first_file (Run model code trace) = Some model
@@ -91,7 +91,7 @@ second_file (Profile model) = None
 second_file (Drive model code word script) = Some script
 second_file (Gen start size model code) = None
 
--- the host is sure of the first file, and whatever it becomes with the files that it tells, of the
+-- the host is sure of the first file, and whatever it becomes with the files that it reports, of the
 -- second
 pub record IsSureOf {H : Type 0} (files : H → Option (List File)) (sure : H → List ℕ → Bool) (h : H)
     (a : Asked) : Type 0 where
@@ -99,7 +99,7 @@ pub record IsSureOf {H : Type 0} (files : H → Option (List File)) (sure : H �
   pub second : IfSome (second_file a) (λ name. (later : H) → files later ≡ files h →
       sure later name ≡ true)
 
--- as it may become with the files that it tells, the host is not sure of the file of this name
+-- as it may become with the files that it reports, the host is not sure of the file of this name
 pub record BecomesUnsureOf {H : Type 0} (files : H → Option (List File)) (sure : H → List ℕ → Bool)
     (h : H) (name : List ℕ) : Type 0 where
   pub later : H
@@ -126,7 +126,7 @@ pub record LacksFile (a : Asked) (fs : List File) : Type 0 where
   pub one : LacksOne a fs
   pub needed : (n : ℕ) → Comes a fs n → ⊥
 
--- P holds where the ending is a fault of reading
+-- P holds where the ending is an error of reading
 abbrev pub IfReadFault : Ending → Type 0 → Type 0
 IfReadFault ReadFault P = P
 IfReadFault _ P = ⊤

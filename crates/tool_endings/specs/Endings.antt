@@ -1,4 +1,4 @@
--- How a call of the tool may end: for each ending what was found, what was written and what is put.
+-- How a call of the tool may end: for each ending what was found, what was written and what is printed.
 use Rattle.std.specs.Prelude.{◌≡◌, ◌≢◌, ℕ, ◌⊎◌, List, [], Option, Some, None}
 use Rattle.std.specs.Io.KnownBytes.{append_known}
 use Rattle.base_refusals.specs.Refusals.{plain_refusal, refusal_line}
@@ -31,7 +31,7 @@ status_of CodeTooLong = 8
 status_of (IsStuck at) = 9
 status_of NoMemory = 10
 
--- the text of an ending, behind the lines that were put before it
+-- the text of an ending, after the lines that were printed before it
 abbrev pub text_of : Ending → List ℕ
 text_of (Compiled rows systems functions) = compiled_line rows systems functions
 text_of (Ran totals) = totals_line totals.ticks totals.steps totals.calls
@@ -62,7 +62,7 @@ EndsUnasked Usage h h' = EndsUsage h h'
 EndsUnasked NoMemory h h' = EndsUsage h h'
 EndsUnasked _ h h' = ⊥
 
--- what was found, written and put up to the ending's own text
+-- what was found, written and printed up to the ending's own text
 abbrev pub Finds : Ending → Option Asked → HostTold → HostTold → SinkTold → SinkTold → Type 0
 Finds e None h h' b b' = EndsUnasked e h h' × PutsNothing b b'
 Finds e (Some (Compile model code)) h h' b b' = EndsCompile e model code h h' × PutsNothing b b'
@@ -74,7 +74,7 @@ Finds e (Some (Drive model code word script)) h h' b b' =
 Finds e (Some (Gen start size model code)) h h' b b' =
     EndsGenerating e start size model code h h' b b'
 
--- a fault of putting was counted where a line wasn't put, and else none
+-- an error of printing was counted where a line wasn't printed, and else none
 abbrev pub CountsPuts : Ending → SinkTold → SinkTold → Type 0
 CountsPuts PutFault b b' = Rose b.faults b'.faults
 CountsPuts _ b b' = b'.faults ≡ b.faults
@@ -84,28 +84,28 @@ pub record Ends (e : Ending) (a : Option Asked) (h h' : HostTold) (b b' : SinkTo
   pub finds : Finds e a h h' b b'
   pub counts : CountsPuts e b b'
 
--- bytes were put whole, and no count rose
+-- bytes were printed whole, and no count rose
 pub record PutsWhole (bytes : List ℕ) (b b' : SinkTold) : Type 0 where
   pub text : b'.bytes ≡ append_known b.bytes bytes
   pub no_fault : b'.faults ≡ b.faults
 
--- a front of the bytes was put, and a fault was counted
+-- a front of the bytes was printed, and an error was counted
 pub record PutsPart (bytes : List ℕ) (b b' : SinkTold) : Type 0 where
   pub text : PutsFront b.bytes b'.bytes bytes
   pub rose : Rose b.faults b'.faults
 
--- an ending that tells no fault of reading, writing or printing
+-- an ending that reports no error of reading, writing or printing
 pub record IsFaultless (e : Ending) : Type 0 where
   pub no_read_fault : e ≢ ReadFault
   pub no_write_fault : e ≢ WriteFault
   pub no_put_fault : e ≢ PutFault
 
--- the ending whose text is printed is the one that was found, or that memory ran out; a fault that was
--- found is always told
+-- the ending whose text is printed is the one that was found, or that memory ran out; an error that was
+-- found is always reported
 abbrev pub IsSaidOf : Ending → Ending → Type 0
 IsSaidOf said found = (said ≡ found) ⊎ ((said ≡ NoMemory) × IsFaultless found)
 
--- the text was put whole and this status is given, or a front of it was and the status is 7
+-- the text was printed whole and this status is given, or a front of it was and the status is 7
 abbrev pub PutsText : (status : ℕ) (text : List ℕ) → ℕ → SinkTold → SinkTold → Type 0
 PutsText status text s b b' = ((s ≡ status) × PutsWhole text b b') ⊎ ((s ≡ 7) × PutsPart text b b')
 
@@ -114,8 +114,8 @@ abbrev pub Puts : Ending → ℕ → SinkTold → SinkTold → Type 0
 Puts e s b b' = PutsText (status_of e) (text_of e) s b b'
 
 -- A call that gave this status ended in some way: what the words ask for, what was found and
--- written, and what was put up to `before`, the sink with the lines that come before the ending's
--- text. Behind them that text was put, or that for want of memory.
+-- written, and what was printed up to `before`, the sink with the lines that come before the ending's
+-- text. After them that text was printed, or that for running out of memory.
 pub record EndsAt (s : ℕ) (a : Option Asked) (h h' : HostTold) (b b' : SinkTold) : Type 0 where
   pub found : Ending
   pub said : Ending

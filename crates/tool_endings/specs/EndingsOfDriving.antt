@@ -1,5 +1,5 @@
 -- How a call may end that drives a system of a model: what was found, what was written and what was
--- put.
+-- printed.
 use Rattle.std.specs.Prelude.{◌≡◌, ℕ, ◌+◌, ◌⊎◌, List, length, Some, None}
 use Rattle.std.specs.Io.KnownBytes.{prepend_known}
 use Rattle.base_refusals.specs.Refusals.{plain_refusal}
@@ -54,7 +54,7 @@ pub record DrivesModel (e : Ending) (word script code model : List ℕ) (h h' : 
   pub drives : OnBytes h script (λ bytes. DrivesTo e written.driven bytes b b')
   pub end : ReadsToEnd e h'
 
--- the same where no fault of reading or writing was counted
+-- the same where no error of reading or writing was counted
 pub record EndsDrive (e : Ending) (model_name code_name word script_name : List ℕ) (h h' : HostTold)
     (b b' : SinkTold) : Type 0 where
   pub model : OnBytes h model_name
@@ -75,7 +75,7 @@ pub record LosesScript (word script code model : List ℕ) (h h' : HostTold)
   pub lines : OpensNothing (length model) h h' b b'
       ⊎ TakesScript (length model) written.driven script h h' b b'
 
--- a fault of reading the model, or the script behind the code
+-- an error of reading the model, or the script after the code
 abbrev pub EndsDriveUnread : (model code word script : List ℕ) → HostTold → HostTold → SinkTold →
     SinkTold → Type 0
 EndsDriveUnread model code word script h h' b b' =

@@ -1,4 +1,4 @@
--- How a call may end that makes a model by rule: what was found, what was written and what was put.
+-- How a call may end that makes a model by rule: what was found, what was written and what was printed.
 use Rattle.std.specs.Prelude.{◌≡◌, ℕ, ◌⊎◌, List, Option}
 use Rattle.std.specs.Io.KnownBytes.{append_known}
 use Rattle.base_refusals.specs.Refusals.{PlainRefusal, plain_refusal}
@@ -40,13 +40,13 @@ pub record WritesFronts (start size : ℕ) (model code : List ℕ) (h h' : HostT
 abbrev pub line_of : Compilation → List ℕ
 line_of c = compiled_line c.rows c.systems c.functions
 
--- the sink with that line put
+-- the sink with that line printed
 abbrev pub with_line : SinkTold → Compilation → SinkTold
 with_line b c = record b { bytes = append_known b.bytes (line_of c) }
 
 -- ---- Endings
 
--- both files were written whole, and behind the compiled line the code was run over the trace that
+-- both files were written whole, and after the compiled line the code was run over the trace that
 -- is made with the model
 pub record RunsMade (e : Ending) (start size : ℕ) (model code : List ℕ) (h h' : HostTold)
     (b b' : SinkTold) : Type 0 where
@@ -56,7 +56,7 @@ pub record RunsMade (e : Ending) (start size : ℕ) (model code : List ℕ) (h h
       (with_line b both.compilation) b'
   pub no_fault : NoFault h h'
 
--- both files were written whole, and a front of the compiled line put
+-- both files were written whole, and a front of the compiled line printed
 pub record CutsLine (start size : ℕ) (model code : List ℕ) (h h' : HostTold)
     (b b' : SinkTold) : Type 0 where
   pub both : WritesBoth start size model code h h'
@@ -73,7 +73,7 @@ pub record FailsWriting (start size : ℕ) (model code : List ℕ) (h h' : HostT
   pub rose : Rose h.write_faults h'.write_faults
   pub fronts : WritesFronts start size model code h h'
 
--- memory ran out before anything was written, or behind both files, with nothing put or the
+-- memory ran out before anything was written, or after both files, with nothing printed or the
 -- compiled line
 pub record StopsMaking (start size : ℕ) (model code : List ℕ) (h h' : HostTold)
     (b b' : SinkTold) : Type 0 where

@@ -14,11 +14,11 @@ use Rattle.tool_endings.specs.Told.{HostTold, SinkTold, source_of, ReadsAlone, N
 
 -- ---- Models and their code
 
--- P holds of the bytes of the file of this name, where the host tells its files
+-- P holds of the bytes of the file of this name, where the host reports its files
 abbrev pub OnNamed : HostTold → List ℕ → (List ℕ → Type 0) → Type 0
 OnNamed h name P = OnFile h.files h.rest name P
 
--- P holds of some bytes, which are those of the file of this name where the host tells its files
+-- P holds of some bytes, which are those of the file of this name where the host reports its files
 pub record OnBytes (h : HostTold) (name : List ℕ) (P : List ℕ → Type 0) : Type 0 where
   pub bytes : List ℕ
   pub file : OnNamed h name (λ told. told ≡ bytes)
@@ -37,7 +37,7 @@ abbrev pub WritesCodeFront : (code model : List ℕ) → HostTold → HostTold �
 WritesCodeFront code model h h' =
     (c : Compilation) × IsCompiledFrom model c × WritesFront h.written h'.written code c.code
 
--- nothing was put, and no fault of putting counted
+-- nothing was printed, and no error of printing counted
 abbrev pub PutsNothing : (b b' : SinkTold) → Type 0
 PutsNothing b b' = b' ≡ b
 
@@ -48,7 +48,7 @@ pub record OpensNothing (before : ℕ) (h h' : HostTold) (b b' : SinkTold) : Typ
   pub given : RoseBy before h.given h'.given
   pub silent : PutsNothing b b'
 
--- the host has written nothing, and no fault was counted
+-- the host has written nothing, and no error was counted
 pub record LeavesHost (h h' : HostTold) : Type 0 where
   pub written : h'.written ≡ h.written
   pub no_fault : NoFault h h'

@@ -1,5 +1,5 @@
 -- How a call may end that runs code over a trace: what was found, what was written and what was
--- put.
+-- printed.
 use Rattle.std.specs.Prelude.{◌≡◌, ℕ, ◌+◌, ◌<◌, ◌≤◌, ◌⊎◌, List, length, Some, ⊤}
 use Rattle.std.specs.Io.KnownBytes.{prepend_known, IsAtEnd}
 use Rattle.base_refusals.specs.Refusals.{plain_refusal}
@@ -58,7 +58,7 @@ pub record RunsModel (e : Ending) (trace code model : List ℕ) (h h' : HostTold
       bytes b b')
   pub end : ReadsToEnd e h'
 
--- the same, where no fault of reading or writing was counted
+-- the same, where no error of reading or writing was counted
 pub record EndsRun (e : Ending) (model_name code_name trace_name : List ℕ) (h h' : HostTold)
     (b b' : SinkTold) : Type 0 where
   pub model : OnBytes h model_name (λ bytes. RunsModel e trace_name code_name bytes h h' b b')
@@ -72,7 +72,7 @@ pub record LosesTrace (trace code model : List ℕ) (h h' : HostTold) (b b' : Si
       ⊎ TakesFile (length model) whole.right.code.program
       (root_types (diagram_of_table whole.resolved)) trace h h' b b'
 
--- a fault of reading the model, or the trace behind the code
+-- an error of reading the model, or the trace after the code
 abbrev pub EndsRunUnread : (model code trace : List ℕ) → HostTold → HostTold → SinkTold → SinkTold →
     Type 0
 EndsRunUnread model code trace h h' b b' =
@@ -154,7 +154,7 @@ abbrev pub EndsExecStuck : Stuck → (code trace : List ℕ) → HostTold → Ho
 EndsExecStuck at code trace h h' b b' =
     EndsAtCode code (IsStuckAtStart at) h h' b b' ⊎ EndsExec (IsStuck at) code trace h h' b b'
 
--- A fault of reading the code, or of the trace behind it: the trace isn't looked for before the
+-- An error of reading the code, or of the trace after it: the trace isn't looked for before the
 -- code was read and started.
 abbrev pub EndsExecUnread : (code trace : List ℕ) → HostTold → HostTold → SinkTold → SinkTold →
     Type 0

@@ -39,19 +39,19 @@ use Rattle.tool_endings.specs.Runs.{HasStepTypes, rows_in, rows_over, bad_line}
 use Rattle.tool_endings.specs.EndingsOfRuns.{code_limit}
 use Rattle.tool_endings.specs.Statuses.{IfFile, IsDone, run_status, status_over, status_at}
 
--- no count of faults rises in the call, or stands at its greatest value
+-- no count of errors rises in the call, or is at its greatest value
 pub record Calm (h h' : HostTold) (b b' : SinkTold) : Type 0 where
   pub reads : IsCalm h.read_faults h'.read_faults
   pub writes : IsCalm h.write_faults h'.write_faults
   pub puts : IsCalm b.faults b'.faults
 
--- the status is n and this text is put, unless memory runs out
+-- the status is n and this text is printed, unless memory runs out
 pub record Tells (n : ℕ) (text : List ℕ) (s : ℕ) (b b' : SinkTold) : Type 0 where
   pub status : (s ≡ n) ⊎ (s ≡ 10)
   pub put : s ≡ n → b'.bytes ≡ append_known b.bytes text
 
 -- a model that the rules refuse is refused, unless memory runs out: nothing is written, and the
--- refusal put
+-- refusal printed
 pub record TellsRefusal (refusal : PlainRefusal) (s : ℕ) (h h' : HostTold)
     (b b' : SinkTold) : Type 0 where
   pub tells : Tells 3 (refusal_line refusal) s b b'
@@ -60,7 +60,7 @@ pub record TellsRefusal (refusal : PlainRefusal) (s : ℕ) (h h' : HostTold)
 -- ---- `compile`
 
 -- Right code for the model is written as the one new file: its bytes have one reading, and that is
--- code for the diagram, in all parts. The compiled line is put.
+-- code for the diagram, in all parts. The compiled line is printed.
 pub record WritesRightCode (r : ResolvedTable) (code : List ℕ) (h h' : HostTold)
     (b b' : SinkTold) : Type 0 where
   pub compilation : Compilation
@@ -92,13 +92,13 @@ last_line ticks (Some at) bad = stuck_line at
 last_line ticks None (Some line) = bad_line_line line
 last_line ticks None None = let t = totals_of ticks in totals_line t.ticks t.steps t.calls
 
--- what a run of a program over a trace puts: a line for each tick, and the last line
+-- what a run of a program over a trace prints: a line for each tick, and the last line
 abbrev pub run_text : ProgramTree → List FixType → List ℕ → List ℕ
 run_text p types trace =
     let rows = rows_over p types trace in
     ticks_text rows.ticks ++ last_line rows.ticks rows.stuck_place (bad_line types trace)
 
--- Right code for the model is written as the one new file. What is put is what its one reading
+-- Right code for the model is written as the one new file. What is printed is what its one reading
 -- gives over the trace, up to its first bad line, and those are the outputs of the diagram's one
 -- run.
 pub record RunsRightCode (r : ResolvedTable) (trace code : List ℕ) (h h' : HostTold)
@@ -143,7 +143,7 @@ pub record Executes (code trace : List ℕ) (s : ℕ) (h h' : HostTold) (b b' : 
 
 -- ---- `profile`
 
--- a model that the rules accept is reported on, unless memory runs out: the report tells all
+-- a model that the rules accept is reported on, unless memory runs out: the report says all
 -- systems of its diagram
 pub record ProfilesAccepted (r : ResolvedTable) (s : ℕ) (b b' : SinkTold) : Type 0 where
   pub status : IsDone s
@@ -168,7 +168,7 @@ last_script_line taken (AtCall refused) = refused_call_line refused
 
 -- Right code for the model is written as the one new file. The calls up to the script's end are
 -- answered by its one reading as the system's run has it over every trace that fits them. Their
--- lines are put, and then the last line.
+-- lines are printed, and then the last line.
 pub record DrivesRightCode (r : ResolvedTable) (system : Option ℕ) (script code : List ℕ)
     (h h' : HostTold) (b b' : SinkTold) : Type 0 where
   pub compilation : Compilation
@@ -209,7 +209,7 @@ pub record Drives (model word script : List ℕ) (s : ℕ) (code : List ℕ) (h 
 
 -- ---- `gen`
 
--- The text of the model is written, and right code for it behind that. What is put is the compiled
+-- The text of the model is written, and right code for it after that. What is printed is the compiled
 -- line, and then what the code's one reading gives over the trace that is made with the model;
 -- those are the outputs of the diagram's one run.
 pub record MakesRightCode (r : ResolvedTable) (start size : ℕ) (model code : List ℕ)
@@ -241,7 +241,7 @@ pub record Makes (start size : ℕ) (s : ℕ) (model code : List ℕ) (h h' : Ho
 
 -- ---- All commands
 
--- what is done with what is asked for, where the host tells the files that it names
+-- what is done with what is asked for, where the host reports the files that it names
 abbrev pub Does : ℕ → Option Asked → (h h' : HostTold) (b b' : SinkTold) → Type 0
 Does s None h h' b b' = ⊤
 Does s (Some (Compile model code)) h h' b b' =
@@ -266,9 +266,9 @@ IsReadOnly _ = ⊥
 abbrev pub WritesNothing : ℕ → Option Asked → Type 0
 WritesNothing s a = IsReadOnly a ⊎ (s ≡ 3)
 
--- Where no count of faults rises or stands at its greatest value: right code is written for a model
+-- Where no count of errors rises or is at its greatest value: right code is written for a model
 -- that the rules accept, and run by `run` and `gen` and driven by `drive`; nothing is written for
--- one that they refuse; `exec` runs the code that it is given, and `profile` puts the report on a
+-- one that they refuse; `exec` runs the code that it is given, and `profile` prints the report on a
 -- model that they accept.
 abbrev pub DoesRight : ℕ → Option Asked → (h h' : HostTold) (b b' : SinkTold) → Type 0
 DoesRight s a h h' b b' = Calm h h' b b' → Does s a h h' b b'

@@ -1,4 +1,4 @@
--- What a program gives over the rows of a trace, and what of it is put.
+-- What a program gives over the rows of a trace, and what of it is printed.
 use Rattle.std.specs.Prelude.{◌≡◌, ℕ, ℤ, List, ◌++◌, Option, Some, None, slice_get, codes}
 use Rattle.std.specs.Io.KnownBytes.{append_known}
 use Rattle.base_fixed_point.specs.declared.types.FixType.{FixType}
@@ -35,7 +35,7 @@ bad_line types bytes = (trace.rows_of bytes types).bad
 abbrev pub rows_over : ProgramTree → List FixType → List ℕ → Rows
 rows_over p types bytes = c_rows p (rows_in types bytes)
 
--- the lines of the ticks were put whole
+-- the lines of the ticks were printed whole
 abbrev pub PutsTicks : List TickRow → (b b' : SinkTold) → Type 0
 PutsTicks ticks b b' = b'.bytes ≡ append_known b.bytes (ticks_text ticks)
 
@@ -66,7 +66,7 @@ pub record FirstRows (types : List FixType) (bytes : List ℕ) : Type 0 where
   pub behind : List (List ℤ)
   pub parts : rows_in types bytes ≡ rows ++ behind
 
--- some first rows were run, and a front of their lines put
+-- some first rows were run, and a front of their lines printed
 pub record RunsToPutFault (p : ProgramTree) (types : List FixType) (bytes : List ℕ)
     (b b' : SinkTold) : Type 0 where
   pub first : FirstRows types bytes
@@ -79,7 +79,7 @@ pub record RunsTaken (p : ProgramTree) (types : List FixType) (taken : List ℕ)
   pub free : (c_rows p (trace.whole_rows_of taken types).rows).stuck_place ≡ None
   pub lines : PutsTicks (c_rows p (trace.whole_rows_of taken types).rows).ticks b b'
 
--- how a run over a trace may end, and what lines were put by then
+-- how a run over a trace may end, and what lines were printed by then
 abbrev pub RunsTo : Ending → ProgramTree → List FixType → List ℕ → (b b' : SinkTold) → Type 0
 RunsTo (Ran totals) p types bytes b b' = RunsWhole totals p types bytes b b'
 RunsTo (BadTrace line) p types bytes b b' = RunsToBadLine line p types bytes b b'

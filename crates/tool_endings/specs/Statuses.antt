@@ -24,20 +24,20 @@ use Rattle.tool_endings.specs.Told.{HostTold}
 use Rattle.tool_endings.specs.Runs.{HasStepTypes, rows_over, bad_line}
 use Rattle.tool_endings.specs.EndingsOfRuns.{code_limit}
 
--- no status that a fault or want of memory gives
+-- no status that an error or running out of memory gives
 pub record IsPlain (s : ℕ) : Type 0 where
   pub no_read_fault : s ≢ 5
   pub no_write_fault : s ≢ 6
   pub no_put_fault : s ≢ 7
   pub no_want_of_memory : s ≢ 10
 
--- no status that a fault gives
+-- no status that an error gives
 pub record TellsNoFault (s : ℕ) : Type 0 where
   pub no_read_fault : s ≢ 5
   pub no_write_fault : s ≢ 6
   pub no_put_fault : s ≢ 7
 
--- the status is n exactly where P, but for faults and want of memory
+-- the status is n exactly where P, except for errors and running out of memory
 pub record IsExactly (n s : ℕ) (P : Type 0) : Type 0 where
   pub only : s ≡ n → P
   pub wherever : P → IsPlain s → s ≡ n
@@ -111,18 +111,18 @@ Comes (Drive model code word script) fs n =
     IsSomeAnd (lookup model fs) (λ bytes. DriveComes bytes word (lookup script fs) n)
 Comes (Gen start size model code) fs n = ModelComes (model_text start size) n (λ d. n ≡ 0)
 
--- but for faults and want of memory, the status is n exactly where what is asked for comes to n
+-- except for errors and running out of memory, the status is n exactly where what is asked for comes to n
 pub record ComesExactly (s : ℕ) (a : Asked) (fs : List File) : Type 0 where
   pub only : IsPlain s → Comes a fs s
   pub wherever : (n : ℕ) → Comes a fs n → IsPlain s → s ≡ n
 
--- where something lawful is asked for and the host tells its files
+-- where something lawful is asked for and the host reports its files
 abbrev pub OnTold : Option Asked → HostTold → (Asked → List File → Type 0) → Type 0
 OnTold a h P = IfSome a (λ a. IfSome h.files (λ fs. OnSome h.rest (P a fs)))
 
 -- ---- Files of a host
 
--- where the host tells its files: if a file of this name is there, P holds of the first one's bytes
+-- where the host reports its files: if a file of this name is there, P holds of the first one's bytes
 abbrev pub IfFile : HostTold → List ℕ → (List ℕ → Type 0) → Type 0
 IfFile h name P = IfSome h.files (λ fs. OnSome h.rest (IfSome (lookup name fs) P))
 

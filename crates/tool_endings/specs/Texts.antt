@@ -1,4 +1,4 @@
--- The lines that the program puts.
+-- The lines that the program prints.
 use Rattle.std.specs.Prelude.{ℕ, List, [], ◌∷◌, ◌++◌, codes, decimal}
 use Rattle.base_core.specs.Bytes.{line_of_words}
 use Rattle.base_core.specs.Words.{at_line}
@@ -80,7 +80,7 @@ script_stop_line NoSubsystem = no_subsystem_line
 script_stop_line (Line bad) = bad_call_line bad
 script_stop_line (Call refused) = refused_call_line refused
 
--- a fault of reading, of writing, and want of memory
+-- an error of reading, of writing, and running out of memory
 abbrev pub read_fault_line : List ℕ
 read_fault_line = codes "read fault" ++ 10 ∷ []
 

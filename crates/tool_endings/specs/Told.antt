@@ -1,9 +1,9 @@
--- What a host and a sink tell at a moment.
+-- What a host and a sink report at a moment.
 use Rattle.std.specs.Prelude.{◌≡◌, ℕ, Bool, List, Option}
 use Rattle.base_host.specs.Files.{File, add_file}
 use Rattle.base_host.specs.Reading.{Source, source, ReadsFront}
 
--- what a host tells
+-- what a host reports
 pub record HostTold : Type 0 where
   -- the files that can be read, and what is unread of the one that is being read
   pub files : Option (List File)
@@ -12,12 +12,12 @@ pub record HostTold : Type 0 where
   pub given : ℕ
   -- the files that were written
   pub written : Option (List File)
-  -- which files it is sure to read without a fault
+  -- which files it is sure to read without an error
   pub sure : List ℕ → Bool
   pub read_faults : ℕ
   pub write_faults : ℕ
 
--- what a sink tells
+-- what a sink reports
 pub record SinkTold : Type 0 where
   pub bytes : Option (List ℕ)
   pub faults : ℕ
@@ -40,7 +40,7 @@ told files rest given written sure read_faults write_faults h =
 abbrev pub sink_told : {S : Type 0} (bytes : S → Option (List ℕ)) (faults : S → ℕ) → S → SinkTold
 sink_told bytes faults s = record { bytes = bytes s; faults = faults s }
 
--- what it tells of the file that is being read, and of all reads
+-- what it reports of the file that is being read, and of all reads
 abbrev pub source_of : HostTold → Source
 source_of h = source h.rest h.given
 
@@ -52,11 +52,11 @@ ReadsAlone name h h' = ReadsFront h.files name (source_of h) (source_of h')
 abbrev pub ReadsNone : HostTold → HostTold → Type 0
 ReadsNone h h' = source_of h' ≡ source_of h
 
--- no count of faults of the host has risen
+-- no count of errors of the host has risen
 pub record NoFault (h h' : HostTold) : Type 0 where
   pub read : h'.read_faults ≡ h.read_faults
   pub write : h'.write_faults ≡ h.write_faults
 
--- what a host tells with one more file written
+-- what a host reports with one more file written
 abbrev pub with_file : HostTold → (name bytes : List ℕ) → HostTold
 with_file h name bytes = record h { written = add_file h.written name bytes }

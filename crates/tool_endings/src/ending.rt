@@ -16,7 +16,7 @@ pub enum ScriptStop {
     Call(RefusedCall),
 }
 
-/// How a call ended, before its last text is put.
+/// How a call ended, before its last text is printed.
 #[derive(Debug, Drop)]
 pub enum Ending {
     /// A model was compiled.
@@ -47,7 +47,7 @@ pub enum Ending {
     ReadFault,
     /// A file can't be written whole.
     WriteFault,
-    /// A line can't be put that comes before the last text.
+    /// A line can't be printed that comes before the last text.
     PutFault,
     /// Memory ran out.
     NoMemory,

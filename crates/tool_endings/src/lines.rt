@@ -46,7 +46,7 @@ fn trace_line(alloc: Global, line: u32, word: &str) -> Result<String, AllocError
     format!(in alloc; "trace line {line} {word}\n")
 }
 
-// The same with a number behind the word.
+// The same with a number after the word.
 fn trace_line_with(alloc: Global, line: u32, word: &str, number: u32) -> Result<String, AllocError>
     ensures { IfOk result (λ text. string_bytes text
         ≡ line_of_words (codes "trace" ∷ at_line line (word.now ∷ decimal number ∷ []))) }

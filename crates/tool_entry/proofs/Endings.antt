@@ -1,4 +1,4 @@
--- The ending whose text was put.
+-- The ending whose text was printed.
 use Rattle.std.proofs.Common.{◌≡◌, ◌≢◌, ℕ, inl, inr, List, refl, sym, subst}
 use Rattle.std.specs.Prelude.{Option, Some, None, IfSome}
 use Rattle.tool_endings.specs.declared.ending.Ending.{Ending}
@@ -15,7 +15,7 @@ pub ended : (found said : Ending) (s : ℕ) (a : Option Asked) (h h' : HostTold)
 ended found said s a h h' b before b' ends says puts =
     record { found = found; said = said; before = before; ends = ends; says = says; puts = puts }
 
--- the text of the ending that was found was put
+-- the text of the ending that was found was printed
 pub said_found : (found e : Ending) (status s : ℕ) (text : List ℕ) (b b' : SinkTold) → found ≡ e → status ≡ status_of e →
     text ≡ text_of e → PutsText status text s b b' → (x : Ending) × IsSaidOf x found × Puts x s b b'
 said_found found e status s text b b' is same told puts = (
@@ -25,7 +25,7 @@ said_found found e status s text b b' is same told puts = (
       (subst (λ (x : List ℕ). PutsText status x s b b') told puts),
 )
 
--- the text for want of memory was put in the place of another
+-- the text for running out of memory was printed in the place of another
 pub said_no_memory : (found : Ending) (status s : ℕ) (text : List ℕ) (b b' : SinkTold) → IsFaultless found →
     status ≡ 10 → text ≡ no_memory_line → PutsText status text s b b' → (e : Ending) × IsSaidOf e found × Puts e s b b'
 said_no_memory found status s text b b' other is same puts = (
@@ -35,7 +35,7 @@ said_no_memory found status s text b b' other is same puts = (
       (subst (λ (x : List ℕ). PutsText status x s b b') same puts),
 )
 
--- what holds where the ending was a fault of reading holds with status 5
+-- what holds where the ending was an error of reading holds with status 5
 pub unsure_asked : FiveIsReadFault → (P : Asked → Type 0) (a : Option Asked) (found said : Ending) (s : ℕ) (b b' : SinkTold) →
     IfSome a (λ a. IfReadFault found (P a)) → IsSaidOf said found → Puts said s b b' → IfSome a (λ a. s ≡ 5 → P a)
 unsure_asked law P None found said s b b' unsure says puts = tt

@@ -1,4 +1,4 @@
--- A host that is sure of the files that are read has no fault of reading.
+-- A host that is sure of the files that are read has no error of reading.
 use Rattle.std.proofs.Common.{◌≡◌, ◌≢◌, ℕ, inl, inr, List, refl, sym, subst, ◌∙◌, arith}
 use Rattle.std.specs.Prelude.{Bool, true, false, Option, Some, None, IfSome, IsSomeAnd, is_some}
 use Rattle.base_host.specs.Faults.{Rose, IsCalm}
@@ -84,6 +84,6 @@ surely_lacks (Some a) h fs s same unsure needed = λ five. record {
         inr (at_there (second_file a) second (λ name u.
         subst (λ (x : List File). lookup name x ≡ None) (same-files u.later h u.same ∙ same) (absent (lookup name u.later.files) u.unsure)))
 
--- a count that stands still below its greatest value has not risen
+-- a count that stays unchanged below its greatest value has not risen
 pub unrisen : (s n : ℕ) → (s ≡ n → Rose 0 0) → s ≢ n
 unrisen s n rises is = let rose : Rose 0 0 = rises is in omega arith

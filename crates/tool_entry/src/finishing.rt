@@ -86,7 +86,7 @@ fn status(ending: &Ending) -> u8
     }
 }
 
-// Puts the text of an ending with this status, and says the status.
+// Prints the text of an ending with this status, and says the status.
 fn put_text<S: Sink>(out: &mut S, status: u8, text: &[u8]) -> u8
     ensures { let at = sink_told S.bytes S.faults in
         PutsText status text.now result (at out.old) (at out.new) }
@@ -97,7 +97,7 @@ fn put_text<S: Sink>(out: &mut S, status: u8, text: &[u8]) -> u8
     }
 }
 
-// Prints the text of an ending that tells no fault, or that memory ran out, and says the status.
+// Prints the text of an ending that reports no error, or that memory ran out, and says the status.
 fn put_made<S: Sink>(alloc: Global, out: &mut S, ending: Ending) -> u8
     requires { IsFaultless ending }
     ensures { let at = sink_told S.bytes S.faults in
@@ -110,7 +110,7 @@ fn put_made<S: Sink>(alloc: Global, out: &mut S, ending: Ending) -> u8
     }
 }
 
-/// Prints an ending's text and says the status. Where there is no memory for it that is told instead, but not of a fault. Where a
+/// Prints an ending's text and says the status. Without memory for it that is reported instead, but not for an error. Where a
 /// line couldn't be printed, nothing more is.
 pub fn finish<S: Sink>(alloc: Global, out: &mut S, ending: Ending) -> u8
     ensures { let at = sink_told S.bytes S.faults in
@@ -118,7 +118,7 @@ pub fn finish<S: Sink>(alloc: Global, out: &mut S, ending: Ending) -> u8
 {
     match ending {
         Ending::PutFault => put_text(out, 7, b""),
-        // A fault is told also where memory has run out.
+        // An error is reported also where memory has run out.
         Ending::ReadFault => put_text(out, 5, b"read fault\n"),
         Ending::WriteFault => put_text(out, 6, b"write fault\n"),
         other => put_made(alloc, out, other),

@@ -18,7 +18,7 @@ use tool_ending_laws::{
     sure_are_done, sure_hosts_are_sure, usage_is_exact,
 };
 
-// Does what the words ask for, puts the text of how it ended, and says the status.
+// Does what the words ask for, prints the text of how it ended, and says the status.
 fn run<H: Host, S: Sink>(alloc: Global, words: &[String], host: &mut H, out: &mut S) -> u8
     ensures ended { let at = told H.files H.rest H.given H.written H.sure H.read_faults H.write_faults in
         let sink = sink_told S.bytes S.faults in
@@ -34,11 +34,11 @@ fn run<H: Host, S: Sink>(alloc: Global, words: &[String], host: &mut H, out: &mu
 
 /// Does what the words after the program's name ask for, and says the status: 0 where the work is done, 2 for words that
 /// are no command, 3 for a model that is refused, 4 for a line of the trace that is no row or a script that can't be run to its
-/// end, 5, 6 and 7 for faults of reading, writing and putting, 8 for code that is no program, 9 for code that is stuck, and 10 for
-/// want of memory.
+/// end, 5, 6 and 7 for errors of reading, writing and printing, 8 for code that is no program, 9 for code that is stuck, and 10 for
+/// running out of memory.
 pub fn run_tool<H: Host, S: Sink>(alloc: Global, words: &[String], host: &mut H, out: &mut S) -> u8
-    // What `compile` writes of an accepted model, what `run` and `drive` put of it besides, and `gen` of one that it makes; what
-    // `profile` puts of an accepted model; that of a refused one nothing is written; and what `exec` puts.
+    // What `compile` writes of an accepted model, what `run` and `drive` print of it besides, and `gen` of one that it makes; what
+    // `profile` prints of an accepted model; that of a refused one nothing is written; and what `exec` prints.
     ensures right { let at = told H.files H.rest H.given H.written H.sure H.read_faults H.write_faults in
         let sink = sink_told S.bytes S.faults in
         DoesRight result (asked_by (word_bytes words.now)) (at host.old) (at host.new)
@@ -48,7 +48,7 @@ pub fn run_tool<H: Host, S: Sink>(alloc: Global, words: &[String], host: &mut H,
     ensures unwritten { WritesNothing result (asked_by (word_bytes words.now)) →
         H.written host.new ≡ H.written host.old }
 
-    // The words asked for something, or not; what was found, what was written and what was put.
+    // The words asked for something, or not; what was found, what was written and what was printed.
     ensures ended { let at = told H.files H.rest H.given H.written H.sure H.read_faults H.write_faults in
         let sink = sink_told S.bytes S.faults in
         EndsAt result (asked_by (word_bytes words.now)) (at host.old) (at host.new) (sink out.old)
@@ -74,13 +74,13 @@ pub fn run_tool<H: Host, S: Sink>(alloc: Global, words: &[String], host: &mut H,
     ensures write_fault { result ≡ 6 → Rose (H.write_faults host.old) (H.write_faults host.new) }
     ensures put_fault { result ≡ 7 → Rose (S.faults out.old) (S.faults out.new) }
 
-    // Where a count of faults rose, the status is 5, 6 or 7, and not 10.
+    // Where a count of errors rose, the status is 5, 6 or 7, and not 10.
     ensures no_fault { TellsNoFault result → (H.read_faults host.new ≡ H.read_faults host.old)
         × (H.write_faults host.new ≡ H.write_faults host.old)
         × (S.faults out.new ≡ S.faults out.old) }
 
-    // What can be done is done, unless memory runs out: where no count of faults rises, and by a host that is sure of the files
-    // that are read, whatever its count of reads that failed. A fault of reading comes only from one that is not.
+    // What can be done is done, unless memory runs out: where no count of errors rises, and by a host that is sure of the files
+    // that are read, whatever its count of reads that failed. An error of reading comes only from one that is not.
     ensures complete { let at = told H.files H.rest H.given H.written H.sure H.read_faults H.write_faults in
         let sink = sink_told S.bytes S.faults in
         IsComplete result (asked_by (word_bytes words.now)) (at host.old) (at host.new)

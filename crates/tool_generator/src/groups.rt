@@ -59,7 +59,7 @@ fn push_group_lines(out: &mut String) -> Result<(), Memory>
     push_line(out, "s", 1, "q", 1)
 }
 
-/// Appends the ends of a system and of what it stands in.
+/// Appends the ends of a system and of what it is in.
 #[tactic(auto, unfolding(crate::specs::Texts::ends_text))]
 pub(crate) fn push_ends(out: &mut String) -> Result<(), Memory>
     ensures { OnOk result (string_bytes out.new ≡ string_bytes out.old ++ ends_text) }

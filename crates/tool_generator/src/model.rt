@@ -12,7 +12,7 @@ use std::alloc::Global;
 
 /// The text of a model of `size` subsystems in a chain, whose numbers are drawn from `start` on.
 ///
-/// The only fault is want of memory.
+/// The only error is that memory runs out.
 pub fn generate(alloc: Global, start: u32, size: u32) -> Result<Vec<u8>, Memory>
     requires start_positive { 0 < start }
     requires start_bound { start ≤ 2147483646 }

@@ -14,7 +14,7 @@ const TICKS: u32 = 4;
 /// The text of the trace for the model of these two numbers: four lines, each with a number of -500 to 499, drawn
 /// after those of the model.
 ///
-/// The only fault is want of memory.
+/// The only error is that memory runs out.
 pub fn generate_trace(alloc: Global, start: u32, size: u32) -> Result<Vec<u8>, Memory>
     requires start_positive { 0 < start }
     requires start_bound { start ≤ 2147483646 }

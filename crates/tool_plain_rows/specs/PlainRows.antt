@@ -15,7 +15,7 @@ plain_value field (Some v) =
     if int_le (neg_ℤ (pos (2 ^ 31))) v && int_le v (pos (2 ^ 32 - 1)) then Ok v
     else Err (Range field)
 
--- the values of the fields from this number on, or the fault of the first bad one
+-- the values of the fields from this number on, or the error of the first bad one
 abbrev pub plain_values_from : ℕ → List (List ℕ) → Result (List ℤ) BadWhy
 plain_values_from field [] = Ok []
 plain_values_from field (text ∷ texts) =

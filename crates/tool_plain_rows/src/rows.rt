@@ -13,7 +13,7 @@ const LEAST: i64 = -2_147_483_648;
 const GREATEST: i64 = 4_294_967_295;
 
 /// Reads the row that a line without its end writes: one field for each item of `into`, a number from -2147483648 to
-/// 4294967295. Spaces and tabs part the fields, and may stand at both ends.
+/// 4294967295. Spaces and tabs part the fields, and may be at both ends.
 ///
 /// Fails where the line is no row, with the first cause in this order: its length, the number of its fields, and the
 /// leftmost bad field. `into` may hold anything then.

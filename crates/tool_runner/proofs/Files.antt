@@ -19,12 +19,12 @@ use Rattle.tool_runner.specs.Walks.{RunsThrough, RunsLines, RunsTo}
 use Rattle.tool_runner.proofs.lemmas.FilePieces.{left_of, is_left, none_left}
 use Rattle.tool_runner.proofs.Walks.{none_through, both_through, stops_in, ends_in, EndsLast, clear, runs_clear, stops_clear, ends_clear}
 
--- before the first tick, the rows behind no line are all
+-- before the first tick, the rows after no line are all
 rows_at_start : (s : Standing) (types : List FixType) (text : List ℕ) → s.totals ≡ no_totals →
     rows_after s.totals.ticks types text ≡ rows_of text types
 rows_at_start s types text start = ap (λ (t : Totals). rows_after t.ticks types text) start
 
--- a last line behind whole lines, as a run over both
+-- a last line after whole lines, as a run over both
 both_end : (result : Result (Unit {0}) RunFault) (head text : List ℕ) (types : List FixType) (s s' s'' : Standing) →
     RunsThrough head types s s' →
     EndsLast result (rows_after s'.totals.ticks types text) s' s'' → EndsLast result (rows_after s.totals.ticks types (head ++ text)) s s''
@@ -60,7 +60,7 @@ text_stops fault text types s s' start none none' stop =
     ap (rows_after s.totals.ticks types) (append-nil text) ∙ rows_at_start s types text start in
     subst (λ t. StoppedBy fault t (clear s) (clear s')) whole (stops_clear fault _ s s' none none' (stop []))
 
--- the same of a result that hands the fault on
+-- the same of a result that hands the error on
 pub handed_on : (result : Result (Unit {0}) RunFault) (fault : RunFault) (trace : Trace) (s s' : Standing) →
     result ≡ Err fault → StoppedBy fault trace s s' → Ends result trace s s'
 handed_on result fault trace s s' is stop = subst (λ (r : Result (Unit {0}) RunFault). Ends r trace s s') (sym is) stop

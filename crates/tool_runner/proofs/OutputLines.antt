@@ -10,7 +10,7 @@ use Rattle.std.proofs.Math.Seq.{take-length}
 use Rattle.std.specs.Fmt.{signed_decimal}
 use Rattle.std.specs.List.{join_with_byte}
 
--- the first number, and each other one behind a space
+-- the first number, and each other one after a space
 joined_first : (x : ℤ) (xs : List ℤ) → join_with_byte 32 (map signed_decimal (x ∷ xs)) ≡ signed_decimal x
     ++ flat_map (λ n. 32 ∷ signed_decimal n) xs
 joined_first x [] = search rules
@@ -29,9 +29,9 @@ pub no_numbers : (numbers : List ℤ) → length numbers ≡ 0 → join_with_byt
 no_numbers [] none = refl
 no_numbers (x ∷ xs) none = absurd (omega arith)
 
--- ---- Numbers that are put one after another
+-- ---- Numbers that are printed one after another
 
--- the text of a number behind a space
+-- the text of a number after a space
 abbrev pub behind : ℤ → List ℕ
 behind n = 32 ∷ signed_decimal n
 

@@ -1,4 +1,4 @@
--- Runs, one behind another.
+-- Runs, one after another.
 use Rattle.std.proofs.Common.{◌≡◌, refl, sym, ◌∙◌, ap, subst, List, [], ◌∷◌, ◌++◌, arith}
 use Rattle.std.specs.Prelude.{ℤ, None, Some}
 use Rattle.std.proofs.lemmas.Grind.{flat_map-append}
@@ -23,7 +23,7 @@ use Rattle.tool_runner.proofs.lemmas.Waiting.{nothing, both_texts, front_of_more
 
 -- ---- Rows
 
--- rows behind these ticks
+-- rows after these ticks
 abbrev pub behind_ticks : List TickRow → Rows → Rows
 behind_ticks ticks rows = record { ticks = ticks ++ rows.ticks; cells = rows.cells; stuck_place = rows.stuck_place }
 
@@ -53,7 +53,7 @@ one_stuck : (p : ProgramTree) (row : List ℤ) (more : List (List ℤ)) (cells l
     rows_from p (row ∷ more) cells ≡ record { ticks = []; cells = left; stuck_place = Some at }
 one_stuck p row more cells left at is = ap (λ o. rows_after p o (rows_from p more)) is
 
--- the ticks of some rows, and of more behind them
+-- the ticks of some rows, and of more after them
 pub ticks_behind : (s s' : Standing) (rows more : List (List ℤ)) → (ticks_over s rows).stuck_place ≡ None →
     HasTicked (ticks_over s rows) s s' →
     ticks_over s (rows ++ more) ≡ behind_ticks (ticks_over s rows).ticks (ticks_over s' more)

@@ -107,7 +107,7 @@ further text types at after row s s' s'' so_far next tick =
 
 -- ---- What ends a run
 
--- behind some rows
+-- after some rows
 stops_behind : (fault : RunFault) (trace : Trace) (rows : List (List ℤ)) (s s' s'' : Standing) →
     (ticks_over s rows).stuck_place ≡ None → Runs (ticks_over s rows) s s' →
     RunsTo fault trace s' s'' → RunsTo fault (with_rows rows trace) s s''
@@ -141,7 +141,7 @@ ends_behind trace rows s s' s'' unstuck runs end = record {
   runs = both_run s s' s'' rows trace.rows unstuck runs end.runs;
 }
 
--- the rows of a text behind one that was run through
+-- the rows of a text after one that was run through
 rows_behind_text : (head text : List ℕ) (types : List FixType) (s s' : Standing) (through : RunsThrough head types s s') →
     with_rows through.rows (rows_after s'.totals.ticks types text) ≡ rows_after s.totals.ticks types (head ++ text)
 rows_behind_text head text types s s' through =
@@ -259,7 +259,7 @@ ticks_last text types row s s' (Ok value) last tick =
 ticks_last text types row s s' (Err fault) last stop =
     tick_stop fault row (record { rows = []; bad = None }) (rows_after s.totals.ticks types text) s s' last.rows stop
 
--- ---- What waits is put at the end
+-- ---- What waits is printed at the end
 
 pub flushed_runs : (rows : Rows) (s s' : Standing) (put : Option (List ℕ)) (waiting : List ℕ) →
     put ≡ append_known s'.put s'.waiting → waiting ≡ [] → Runs rows s s' →
@@ -269,7 +269,7 @@ flushed_runs rows s s' put waiting is none runs = record {
   lines = flushed s.waiting s'.waiting waiting (ticks_text rows.ticks) s.put s'.put put runs.lines is none;
 }
 
--- a front of what waited was put, behind a run of all rows of a trace
+-- a front of what waited was printed, after a run of all rows of a trace
 cut_whole : (trace : Trace) (s s' : Standing) (put : Option (List ℕ)) (waiting : List ℕ) →
     PutsFront s'.put put s'.waiting → Runs (ticks_over s trace.rows) s s' →
     RunsToOut trace s (record { machine = s'.machine; totals = s'.totals; put = put; waiting = waiting })
@@ -421,14 +421,14 @@ pub row_for : (m m' : MachineState) (types : List FixType) (row : List ℤ) → 
 row_for m m' types row same narrow in_types =
     subst (λ (p : CheckedProgram). AllZip InType p.inputs row) (sym same) (row_fits types m.program.inputs row narrow in_types)
 
--- a result that hands a fault on
+-- a result that hands an error on
 pub handed : (ran : Result ℕ RunFault) (fault : RunFault) (text : List ℕ) (types : List FixType) (s s' : Standing) → ran ≡ Err fault →
     ((behind : List ℕ) → RunsTo fault (rows_after s.totals.ticks types (text ++ behind)) s s') → EndsLines ran text types s s'
 handed ran fault text types s s' is stop = subst (λ (r : Result ℕ RunFault). EndsLines r text types s s') (sym is) stop
 
 -- ---- A row that was read into its room
 
--- the run stands where it stood
+-- the run is where it was
 pub same_place : (machine : MachineState) (run run' : Run) (put : Option (List ℕ)) → IsFilled run run' →
     inside machine run put ≡ inside machine run' put
 same_place machine run run' put filled =

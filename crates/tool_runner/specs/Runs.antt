@@ -29,7 +29,7 @@ totals_of ticks =
       calls = sum_by interface_calls ticks;
     }
 
--- totals, and what these took behind them
+-- totals, and what these took after them
 abbrev pub added : Totals → Totals → Totals
 added t more =
     record {
@@ -38,7 +38,7 @@ added t more =
       calls = t.calls + more.calls;
     }
 
--- the ticks of these rows, on the machine as it stands
+-- the ticks of these rows, on the machine as it is
 abbrev pub ticks_over : Standing → List (List ℤ) → Rows
 ticks_over s rows = rows_from (tree_of s.machine) rows (fields_of s.machine)
 
@@ -48,7 +48,7 @@ pub record HasTicked (rows : Rows) (s s' : Standing) : Type 0 where
   pub fields : fields_of s'.machine ≡ rows.cells
   pub totals : s'.totals ≡ added s.totals (totals_of rows.ticks)
 
--- and their lines were put
+-- and their lines were printed
 pub record HasRun (rows : Rows) (s s' : Standing) : Type 0 where
   pub ticked : HasTicked rows s s'
   pub put : s'.put ≡ append_known s.put (ticks_text rows.ticks)
@@ -77,7 +77,7 @@ pub record Front (trace : Trace) : Type 0 where
   pub behind : List (List ℤ)
   pub parts : trace.rows ≡ rows ++ behind
 
--- some first rows have ticked, of which the last may be stuck, and a front of their lines was put
+-- some first rows have ticked, of which the last may be stuck, and a front of their lines was printed
 pub record StoppedByOut (trace : Trace) (s s' : Standing) : Type 0 where
   pub front : Front trace
   pub ticked : HasTicked (ticks_over s front.rows) s s'
@@ -114,7 +114,7 @@ abbrev pub taken_rows : Parts → List FixType → Trace
 taken_rows parts types = whole_rows_of parts.taken types
 
 -- What a run over a file is stopped by. Where it can't be read on, each whole line among what was
--- taken is a row that has ticked and whose line was put. Memory is taken before the first byte.
+-- taken is a row that has ticked and whose line was printed. Memory is taken before the first byte.
 abbrev pub StoppedReading : RunFault → Parts → List FixType → Standing → Standing → Type 0
 StoppedReading fault.Read parts types s s' = RanWhole (taken_rows parts types) s s'
 StoppedReading fault.Out parts types s s' = StoppedByOut (file_rows parts types) s s'
@@ -122,7 +122,7 @@ StoppedReading (fault.Trace bad) parts types s s' = StoppedAtLine bad (file_rows
 StoppedReading (fault.Stuck at) parts types s s' = StoppedStuck at (file_rows parts types) s s'
 StoppedReading fault.Memory parts types s s' = (s' ≡ s) × (parts.taken ≡ [])
 
--- it was a run over a file that is told to be such where the host tells it: what was taken of it in
+-- it was a run over a file that is reported to be such where the host reports it: what was taken of it in
 -- the call, and what is left
 pub record RunsOver (result : Result (Unit {0}) RunFault) (from to : Source)
     (types : List FixType) (s s' : Standing) : Type 0 where

@@ -1,4 +1,4 @@
--- The lines that a run puts.
+-- The lines that a run prints.
 use Rattle.std.specs.Prelude.{ℕ, ℤ, List, map, flat_map}
 use Rattle.std.specs.Fmt.{signed_decimal}
 use Rattle.base_core.specs.Bytes.{line_of_words}

@@ -1,4 +1,4 @@
--- Where a run stands, and what one tick adds to it.
+-- Where a run is, and what one tick adds to it.
 use Rattle.std.specs.Prelude.{◌≡◌, ℕ, ◌+◌, ◌*◌, ◌^◌, ◌≤◌, ℤ, List, [], ◌++◌, Option}
 use Rattle.base_host.specs.Files.{PutsFront}
 use Rattle.base_host.specs.Buffers.{PutsAllBut}
@@ -13,15 +13,15 @@ use Rattle.tool_runner.specs.declared.outcome.RunFault.{RunFault}
 use Rattle.tool_runner.specs.declared.outcome.RunFault.TheVariants as fault
 use Rattle.tool_runner.specs.Texts.{outputs_line}
 
--- a machine, what its ticks took so far, what was put, where the sink tells it, and the lines that
--- wait to be put
+-- a machine, what its ticks took so far, what was printed, where the sink reports it, and the lines that
+-- wait to be printed
 pub record Standing : Type 0 where
   pub machine : MachineState
   pub totals : Totals
   pub put : Option (List ℕ)
   pub waiting : List ℕ
 
--- where a run stands with nothing that waits
+-- where a run is with nothing that waits
 abbrev pub standing : MachineState → Totals → Option (List ℕ) → Standing
 standing machine totals put = record { machine = machine; totals = totals; put = put; waiting = [] }
 
@@ -48,11 +48,11 @@ pub record Ticked (row outputs : List ℤ) (s s' : Standing) : Type 0 where
   pub program : s'.machine.program ≡ s.machine.program
   pub totals : s'.totals ≡ counted s.totals cost
 
--- this text is put or waits behind what waited
+-- this text is printed or waits after what waited
 abbrev pub Takes : List ℕ → Standing → Standing → Type 0
 Takes text s s' = PutsAllBut s'.waiting (s.waiting ++ text) s.put s'.put
 
--- a tick of this row was executed, and its line is put or waits
+-- a tick of this row was executed, and its line is printed or waits
 pub record TicksOn (row : List ℤ) (s s' : Standing) : Type 0 where
   pub outputs : List ℤ
   pub ticked : Ticked row outputs s s'
@@ -66,7 +66,7 @@ pub record StuckOn (at : Stuck) (row : List ℤ) (s s' : Standing) : Type 0 wher
   pub put : s'.put ≡ s.put
   pub waiting : s'.waiting ≡ s.waiting
 
--- a tick of this row was executed, and a front put of what waited and its line
+-- a tick of this row was executed, and a front printed of what waited and its line
 pub record CutOn (row : List ℤ) (s s' : Standing) : Type 0 where
   pub outputs : List ℤ
   pub ticked : Ticked row outputs s s'

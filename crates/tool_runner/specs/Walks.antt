@@ -1,4 +1,4 @@
--- What the steps of a run come to, while lines may wait to be put.
+-- What the steps of a run come to, while lines may wait to be printed.
 use Rattle.std.specs.Prelude.{◌≡◌, ℕ, ◌+◌, ◌≤◌, ℤ, List, ◌++◌, length, take, drop, Option, None, Some}
 use Rattle.base_host.specs.Files.{PutsFront}
 use Rattle.base_fixed_point.specs.declared.types.FixType.{FixType}
@@ -15,7 +15,7 @@ use Rattle.tool_runner.specs.Texts.{ticks_text}
 use Rattle.tool_runner.specs.Ticks.{Standing, StaysWithin, Takes}
 use Rattle.tool_runner.specs.Runs.{ticks_over, HasTicked, Front}
 
--- where a run stands, with the lines that wait in it
+-- where a run is, with the lines that wait in it
 abbrev pub inside : MachineState → Run → Option (List ℕ) → Standing
 inside machine run put =
     record { machine = machine; totals = run.totals; put = put; waiting = run.lines }
@@ -34,7 +34,7 @@ pub record IsFilled (run run' : Run) : Type 0 where
   pub lines : run'.lines ≡ run.lines
   pub totals : run'.totals ≡ run.totals
 
--- these ticks were executed and counted, and their lines are put or wait
+-- these ticks were executed and counted, and their lines are printed or wait
 pub record Runs (rows : Rows) (s s' : Standing) : Type 0 where
   pub ticked : HasTicked rows s s'
   pub lines : Takes (ticks_text rows.ticks) s s'
@@ -72,7 +72,7 @@ pub record RunsToStuck (at : Stuck) (trace : Trace) (s s' : Standing) : Type 0 w
   pub stuck : (ticks_over s trace.rows).stuck_place ≡ Some at
   pub runs : Runs (ticks_over s trace.rows) s s'
 
--- some first rows have ticked, of which the last may be stuck, and a front was put of what waited
+-- some first rows have ticked, of which the last may be stuck, and a front was printed of what waited
 -- and of their lines
 pub record RunsToOut (trace : Trace) (s s' : Standing) : Type 0 where
   pub front : Front trace

@@ -10,7 +10,7 @@ ghost use Rattle.tool_runner.specs.Texts.{outputs_line};
 use base_host::{Failed, PutBuffer, Sink};
 use itoa::Buffer;
 
-// Puts the decimal text of a number.
+// Prints the decimal text of a number.
 fn put_number<S: Sink>(lines: &mut PutBuffer, sink: &mut S, number: i64) -> Result<(), Failed>
     ensures taken { OnOk result (PutsAllBut lines.new (lines.old ++ signed_decimal number) (S.bytes sink.old)
         (S.bytes sink.new)) }
@@ -22,7 +22,7 @@ fn put_number<S: Sink>(lines: &mut PutBuffer, sink: &mut S, number: i64) -> Resu
     lines.put(sink, digits.format(number).as_bytes())
 }
 
-// Puts the decimal text of a number behind a space.
+// Prints the decimal text of a number after a space.
 fn put_behind<S: Sink>(lines: &mut PutBuffer, sink: &mut S, number: i64) -> Result<(), Failed>
     ensures taken { OnOk result (PutsAllBut lines.new (lines.old ++ 32 ∷ signed_decimal number)
         (S.bytes sink.old) (S.bytes sink.new)) }
@@ -35,7 +35,7 @@ fn put_behind<S: Sink>(lines: &mut PutBuffer, sink: &mut S, number: i64) -> Resu
     put_number(lines, sink, number)
 }
 
-// Puts the decimal texts of numbers, each behind a space.
+// Prints the decimal texts of numbers, each after a space.
 fn put_others<S: Sink>(lines: &mut PutBuffer, sink: &mut S, numbers: &[i64]) -> Result<(), Failed>
     ensures taken { OnOk result
         (PutsAllBut lines.new (lines.old ++ flat_map (λ n. 32 ∷ signed_decimal n) numbers.now)
@@ -51,7 +51,7 @@ fn put_others<S: Sink>(lines: &mut PutBuffer, sink: &mut S, numbers: &[i64]) -> 
     Ok(())
 }
 
-// Puts the decimal texts of numbers, with a space between each two.
+// Prints the decimal texts of numbers, with a space between each two.
 fn put_numbers<S: Sink>(lines: &mut PutBuffer, sink: &mut S, numbers: &[i64]) -> Result<(), Failed>
     ensures taken { OnOk result
         (PutsAllBut lines.new (lines.old ++ join_with_byte 32 (map signed_decimal numbers.now))
@@ -68,9 +68,9 @@ fn put_numbers<S: Sink>(lines: &mut PutBuffer, sink: &mut S, numbers: &[i64]) ->
     put_others(lines, sink, &numbers[1..])
 }
 
-/// Puts the line of a tick with these outputs, or lets it wait: decimal numbers with a space between each two.
+/// Prints the line of a tick with these outputs, or lets it wait: decimal numbers with a space between each two.
 ///
-/// Fails only where the sink counted a fault. Then a front of what waited and of the line was put, and the rest is lost.
+/// Fails only where the sink counted an error. Then a front of what waited and of the line was printed, and the rest is lost.
 pub fn put_line<S: Sink>(lines: &mut PutBuffer, sink: &mut S, outputs: &[i64]) -> Result<(), Failed>
     ensures taken { OnOk result (PutsAllBut lines.new (lines.old ++ outputs_line outputs.now)
         (S.bytes sink.old) (S.bytes sink.new)) }

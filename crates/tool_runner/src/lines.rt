@@ -79,7 +79,7 @@ fn tick_last<S: Sink>(
     }
 }
 
-/// A tick for each whole line of the text. Says where the last of them ends, and puts all that waits, however it ends.
+/// A tick for each whole line of the text. Says where the last of them ends, and prints all that waits, however it ends.
 pub(crate) fn run_lines<S: Sink>(
     run: &mut Run,
     machine: &mut Machine,
@@ -113,7 +113,7 @@ pub(crate) fn run_lines<S: Sink>(
     ran
 }
 
-/// A tick for the text as a last line without an end, where it isn't empty. Puts all that waits, however it ends.
+/// A tick for the text as a last line without an end, where it isn't empty. Prints all that waits, however it ends.
 pub(crate) fn run_last<S: Sink>(
     run: &mut Run,
     machine: &mut Machine,

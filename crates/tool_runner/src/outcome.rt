@@ -17,7 +17,7 @@ pub struct Totals {
 pub enum RunFault {
     /// The trace can't be read.
     Read,
-    /// A line of outputs can't be put.
+    /// A line of outputs can't be printed.
     Out,
     /// The first line of the trace that is no row.
     Trace(BadLine),

@@ -6,7 +6,7 @@ use crate::outcome::Totals;
 use base_host::PutBuffer;
 use std::alloc::{AllocError, Global};
 
-/// The numbers of a row and of its outputs, the lines that wait to be put, and what was executed.
+/// The numbers of a row and of its outputs, the lines waiting to be printed, and what was executed.
 #[derive(Drop)]
 pub(crate) struct Run {
     pub(crate) row: Vec<i64>,

@@ -15,7 +15,7 @@ use base_host::Sink;
 use c_interpreter::Machine;
 use std::alloc::Global;
 
-// The whole lines of a trace's bytes, and the last line behind them.
+// The whole lines of a trace's bytes, and the last line after them.
 fn run_text<S: Sink>(
     run: &mut Run,
     machine: &mut Machine,
@@ -39,7 +39,7 @@ fn run_text<S: Sink>(
     run_last(run, machine, types, &trace[done..], sink)
 }
 
-/// Runs the rows of a trace's bytes through the machine, one tick for each, and puts one line of outputs for each tick:
+/// Runs the rows of a trace's bytes through the machine, one tick for each, and prints one line of outputs for each tick:
 /// decimal numbers with a space between each two. The totals count what was executed.
 ///
 /// `types` are those of the numbers of a row, each within the type of its input.
@@ -47,8 +47,8 @@ fn run_text<S: Sink>(
 /// # Errors
 ///
 /// `Trace` exactly at the first line that is no row, `Stuck` exactly where the machine is stuck before such a line, `Out` only
-/// where the sink counted a fault, and `Memory` where memory ran out, before anything was executed or put. The lines of the
-/// ticks before stand, at `Out` a front of them, and the machine and the totals are as the executed ticks left them. A tick that
+/// where the sink counted an error, and `Memory` where memory ran out, before anything was executed or printed. The lines of the
+/// ticks before stay, at `Out` a front of them, and the machine and the totals are as the executed ticks left them. A tick that
 /// is stuck isn't counted.
 pub fn run_bytes<S: Sink>(
     alloc: Global,

@@ -26,7 +26,7 @@ impl Totals {
     }
 }
 
-// The tick of the row: the machine goes on, the totals count it, and its line is put or waits.
+// The tick of the row: the machine goes on, the totals count it, and its line is printed or waits.
 pub(crate) fn tick<S: Sink>(
     run: &mut Run,
     machine: &mut Machine,

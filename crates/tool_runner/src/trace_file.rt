@@ -64,12 +64,12 @@ fn run_pieces<H: Host, S: Sink>(
 }
 
 /// Runs the rows of the open file through the machine, as `run_bytes` does, and reads the file piece by piece: the memory that is
-/// taken doesn't grow with the file. All lines of the rows that were read are put before the file is read on.
+/// taken doesn't grow with the file. All lines of the rows that were read are printed before the file is read on.
 ///
 /// # Errors
 ///
-/// Those of `run_bytes`, and `Read`, only where the host counted a fault: then the lines of all whole lines among the bytes that
-/// were read stand. At `Memory` nothing was read.
+/// Those of `run_bytes`, and `Read`, only where the host counted an error: then the lines of all whole lines among the bytes that
+/// were read stay. At `Memory` nothing was read.
 pub fn run_trace<H: Host, S: Sink>(
     alloc: Global,
     machine: &mut Machine,

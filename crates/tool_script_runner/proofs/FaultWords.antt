@@ -1,4 +1,4 @@
--- The numbers of functions, each behind a space.
+-- The numbers of functions, each after a space.
 use Rattle.std.proofs.Common.{◌≡◌, ℕ, zero, suc, ◌+◌, ◌-◌, ◌<◌, Bool, true, false, cond, List, [], ◌∷◌, ◌++◌, map, filter, refl, sym, ap, ◌∙◌, append-nil, append_assoc, arith}
 use Rattle.std.specs.Prelude.{codes, decimal, flat_map}
 use Rattle.std.specs.List.{range_with_len, join_with_byte}
@@ -7,7 +7,7 @@ use Rattle.std.proofs.lemmas.List.Elements.{filter-append}
 use Rattle.base_core.specs.Ports.{has_bit}
 use Rattle.tool_script_runner.specs.FaultTexts.{script_line, functions_up_to}
 
--- each behind a space
+-- each after a space
 abbrev pub spaced_numbers : List ℕ → List ℕ
 spaced_numbers numbers = flat_map (λ j. 32 ∷ decimal j) numbers
 

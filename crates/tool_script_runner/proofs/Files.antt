@@ -80,7 +80,7 @@ ends_clear (Ok value) parts s s' none none' ends = end_clear (file_script parts 
 ends_clear (Err fault) parts s s' none none' ends =
     stop_clear fault parts s s' none (λ other. none' (λ e. let same : fault ≡ Out = cc in other same)) ends
 
--- a last line behind whole lines, as a run over both
+-- a last line after whole lines, as a run over both
 both_end : (result : Result (Unit {0}) ScriptFault) (head text counts : List ℕ) (all n n' : ℕ) (s s' s'' : Standing) →
     RunsThrough head counts all n n' s s' →
     EndsLast result n' (calls_after n' counts all text) s' s'' → EndsLast result n (calls_after n counts all (head ++ text)) s s''

@@ -25,12 +25,12 @@ use Rattle.tool_script_runner.specs.Right.{IsGivenBy, AreGivenBy, AreTaken, Answ
 
 -- ---- A driver stands for the calls that it answered
 
--- an update tells nothing
+-- an update reports nothing
 abbrev TellsNothing : Call → List ℤ → Type 0
 TellsNothing (out_with j values) outputs = ⊤
 TellsNothing (update_with values) outputs = outputs ≡ []
 
--- each call told what is right behind the calls before it
+-- each call reported what is right after the calls before it
 abbrev TellRight : Driven → List Call → List Answered → Type 0
 TellRight w script [] = ⊤
 TellRight w script (a ∷ answers) =
@@ -41,7 +41,7 @@ nothing_told : (call : Call) (outputs : List ℤ) (cost : Cost) (d d' : DriverSt
 nothing_told (out_with j values) outputs cost d d' made = tt
 nothing_told (update_with values) outputs cost d d' made = made.nothing
 
--- the driver stands for the script behind which these calls came, and each was right
+-- the driver stands for the script after which these calls came, and each was right
 record StandsBehind (w : Driven) (script : List Call) (answers : List Answered) (d : DriverState) : Type 0 where
   stands : StandsFor w d (script ++ calls_in answers)
   told : TellRight w script answers

@@ -1,4 +1,4 @@
--- The run of a script by a driver of right code, told without the driver.
+-- The run of a script by a driver of right code, said without the driver.
 use Rattle.std.proofs.Common.{◌≡◌, refl, sym, ◌∙◌, ap, subst, ℕ, zero, suc, ◌+◌, ◌-◌, ◌≤◌, List, [], ◌∷◌, ◌++◌, length, map, take, replicate, arith}
 use Rattle.std.specs.Prelude.{ℤ, false, Option, Some, None, IfSome, Ok, Err}
 use Rattle.std.specs.List.{range_with_len}
@@ -46,7 +46,7 @@ shape_behind : (call : Call) (outputs : List ℤ) (cost : Cost) (d d' : DriverSt
 shape_behind (out_with j values) outputs cost d d' made = ap (λ (e : DriverState). e.shape) made.made.tick
 shape_behind (update_with values) outputs cost d d' made = ap (λ (e : DriverState). e.shape) made.made.tick
 
--- behind the calls that a driver answered, its tick decides what is refused
+-- after the calls that a driver answered, its tick decides what is refused
 refused_behind : (answers : List Answered) (count : ℕ) (behind : List Call) (d d' : DriverState) → Answers answers d d' →
     first_refused d.shape (turn_of d) count (calls_in answers ++ behind)
     ≡ first_refused d'.shape (turn_of d') (count + length answers) behind
@@ -69,7 +69,7 @@ refused_behind (a ∷ answers) count behind d d' some =
 some_same : (x y : RefusedCall) → Some x ≡ Some y → x ≡ y
 some_same x y e = cc
 
--- the first refused call stands behind the lines before it
+-- the first refused call is after the lines before it
 refused_later : (s : Shape) (turn : Turn) (count : ℕ) (calls : List Call) (refused : RefusedCall) →
     first_refused s turn count calls ≡ Some refused → count + 1 ≤ refused.line
 refused_later s turn count [] refused is = absurd (subst (λ (o : Option RefusedCall). IfSome o (λ r. ⊥)) is tt)
@@ -137,7 +137,7 @@ end_at s script refused bad first is_bad = λ i. end_by (first i) (is_bad i)
 first_totals : (t u : Totals) → t ≡ no_totals → added t u ≡ u
 first_totals t u is = ap (λ v. added v u) is ∙ same_totals (added no_totals u) u (omega arith) (omega arith) (omega arith)
 
--- a fault of a call that isn't a machine that is stuck
+-- an error of a call that isn't a machine that is stuck
 is_fault : (w : Driven) (calls : List Call) (why : DriveFault) (d : DriverState) → StandsAfter w calls why d →
     fault_unless_stuck why ≡ Some why
 is_fault w calls (drive.Stuck at) d stands = absurd stands

@@ -79,7 +79,7 @@ parts_behind xs ys behind calls parts =
     ap (λ cs. calls_in xs ++ cs) parts ∙ sym (append_assoc (calls_in xs) (calls_in ys) behind)
     ∙ ap (λ cs. cs ++ behind) (sym (calls-append xs ys))
 
--- behind some calls
+-- after some calls
 stops_behind : (fault : ScriptFault) (n : ℕ) (script : Script) (xs : List Answered) (s s' s'' : Standing) → Runs xs s s' →
     RunsTo fault (n + length xs) script s' s'' → RunsTo fault n (with_calls (calls_in xs) script) s s''
 stops_behind Read n script xs s s' s'' runs stop = absurd stop
@@ -122,7 +122,7 @@ ends_behind script xs s s' s'' runs end = record {
   runs = both_run xs end.answers s s' s'' runs end.runs;
 }
 
--- the calls of a text behind one that was run through
+-- the calls of a text after one that was run through
 calls_behind_text : (head text counts : List ℕ) (all n n' : ℕ) (s s' : Standing) (through : RunsThrough head counts all n n' s s') →
     with_calls (calls_in through.answers) (calls_after n' counts all text) ≡ calls_after n counts all (head ++ text)
 calls_behind_text head text counts all n n' s s' through =
@@ -234,9 +234,9 @@ call_last text counts all n call s s' (Ok value) last next = record {
 call_last text counts all n call s s' (Err fault) last stop =
     call_stop fault n call (record { calls = []; bad = None }) (calls_after n counts all text) s s' last.calls stop
 
--- ---- What waits is put at the end
+-- ---- What waits is printed at the end
 
--- the same place, with this put and this waiting
+-- the same place, with this printed and this waiting
 abbrev pub put_at : Standing → Option (List ℕ) → List ℕ → Standing
 put_at s put waiting = record { driver = s.driver; totals = s.totals; put = put; waiting = waiting }
 
@@ -268,7 +268,7 @@ flushed_stop (Refused refused) n script s s' put waiting is none other stop = re
 }
 flushed_stop Memory n script s s' put waiting is none other stop = absurd stop
 
--- a front of what waited was put, behind calls that end a script or are followed by these
+-- a front of what waited was printed, after calls that end a script or are followed by these
 cut_runs : (xs : List Answered) (script : Script) (behind : List Call) (before : DriverState) (s s' : Standing) (put : Option (List ℕ))
     (waiting : List ℕ) →
     script.calls ≡ calls_in xs ++ behind → RefusesOrNot behind before s'.driver → PutsFront s'.put put s'.waiting →
@@ -358,7 +358,7 @@ last_cut (Ok value) n script s s' put waiting front other ends =
 last_cut (Err fault) n script s s' put waiting front other ends =
     cut_stop fault n script s s' put waiting front (other_fault (Unit {0}) fault other) ends
 
--- a result that hands a fault on
+-- a result that hands an error on
 pub handed : (ran : Result ℕ ScriptFault) (fault : ScriptFault) (text counts : List ℕ) (all n n' : ℕ) (s s' : Standing) → ran ≡ Err fault →
     ((behind : List ℕ) → RunsTo fault n (calls_after n counts all (text ++ behind)) s s') → EndsLines ran text counts all n n' s s'
 handed ran fault text counts all n n' s s' is stop =
@@ -366,7 +366,7 @@ handed ran fault text counts all n n' s s' is stop =
 
 -- ---- A call that was read into its room
 
--- the run stands where it stood
+-- the run is where it was
 pub same_place : (driver : DriverState) (run run' : Run) (put : Option (List ℕ)) → IsFilled run run' →
     inside driver run put ≡ inside driver run' put
 same_place driver run run' put filled = λ i.

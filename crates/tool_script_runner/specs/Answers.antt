@@ -8,7 +8,7 @@ use Rattle.tool_driver.specs.Judging.{call_fault, update_fault, fault_unless_stu
 use Rattle.tool_driver.specs.Calling.{IsCallOf, IsUpdate, Leaves}
 use Rattle.tool_driver.specs.Driven.{Driven, StandsFor, StandsAfter, AnswersRight}
 
--- a call that was answered: what it told, which is nothing for an update, and what it took
+-- a call that was answered: what it reported, which is nothing for an update, and what it took
 pub record Answered : Type 0 where
   pub call : Call
   pub outputs : List ℤ
@@ -26,7 +26,7 @@ pub record OutMade (j : ℕ) (values outputs : List ℤ) (cost : Cost)
   pub allowed : call_fault d j values ≡ None
   pub made : IsCallOf j values outputs cost d d'
 
--- the same of an update, which tells nothing
+-- the same of an update, which reports nothing
 pub record UpdateMade (values outputs : List ℤ) (cost : Cost) (d d' : DriverState) : Type 0 where
   pub allowed : update_fault d values ≡ None
   pub nothing : outputs ≡ []

@@ -18,7 +18,7 @@ use Rattle.tool_script_runner.specs.ScriptEnds.{Whole, AtLine, AtCall, script_en
 use Rattle.tool_script_runner.specs.Standings.{Standing, totals_of}
 use Rattle.tool_script_runner.specs.Texts.{answers_text}
 
--- The calls are a lawful script of the system. Each told what the system gives over every trace
+-- The calls are a lawful script of the system. Each reported what the system gives over every trace
 -- that fits the script, of which there is one, and took what it takes in the program.
 pub record AreAnswered (w : Driven) (answers : List Answered) : Type 0 where
   pub lawful : IsLawfulScript w.diagram w.system (functions_of w) (calls_in answers)
@@ -27,7 +27,7 @@ pub record AreAnswered (w : Driven) (answers : List Answered) : Type 0 where
   pub some : HasRun w (calls_in answers)
   pub taken : AreTaken w [] answers
 
--- all calls up to the script's end were answered, and took this together; their lines were put
+-- all calls up to the script's end were answered, and took this together; their lines were printed
 pub record AnswersAll (w : Driven) (script : List ℕ) (taken : Totals)
     (put put' : Option (List ℕ)) : Type 0 where
   pub answers : List Answered
@@ -36,7 +36,7 @@ pub record AnswersAll (w : Driven) (script : List ℕ) (taken : Totals)
   pub totals : taken ≡ totals_of answers
   pub lines : put' ≡ append_known put (answers_text answers)
 
--- some first calls were answered, and a front of their lines put
+-- some first calls were answered, and a front of their lines printed
 pub record AnswersSome (w : Driven) (script : List ℕ) (put put' : Option (List ℕ)) : Type 0 where
   pub answers : List Answered
   pub behind : List Call
@@ -45,7 +45,7 @@ pub record AnswersSome (w : Driven) (script : List ℕ) (put put' : Option (List
   pub front : PutsFront put put' (answers_text answers)
 
 -- each whole line among the bytes that were taken is a call that was answered, and whose line was
--- put
+-- printed
 pub record AnswersTaken (w : Driven) (taken : List ℕ) (put put' : Option (List ℕ)) : Type 0 where
   pub end : end_of (shape_of w) (whole_script_of (shape_of w) taken) ≡ Whole
   pub answers : List Answered
@@ -69,7 +69,7 @@ DrivesTo (Err fault.Out) w parts taken put put' = AnswersSome w (parts.taken ++ 
 DrivesTo (Err fault.Read) w parts taken put put' = AnswersTaken w parts.taken put put'
 DrivesTo (Err fault.Memory) w parts taken put put' = put' ≡ put
 
--- the run of a script over a file that is told to be such where the host tells it
+-- the run of a script over a file that is reported to be such where the host reports it
 pub record DrivesOver (w : Driven) (result : Result (Unit {0}) ScriptFault)
     (from to : Source) (taken : Totals) (put put' : Option (List ℕ)) : Type 0 where
   pub parts : Parts

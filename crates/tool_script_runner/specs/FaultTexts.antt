@@ -1,4 +1,4 @@
--- The lines that tell what a script is stopped by.
+-- The lines that say what a script is stopped by.
 use Rattle.std.specs.Prelude.{ℕ, ◌-◌, List, [], ◌∷◌, map, filter, codes, decimal}
 use Rattle.std.specs.List.{range_with_len}
 use Rattle.std.specs.Fmt.{signed_decimal}
@@ -12,7 +12,7 @@ use Rattle.tool_scripts.specs.declared.calls.ScriptWhy.TheVariants as why
 use Rattle.tool_scripts.specs.declared.walk.BadCall.{BadCall}
 use Rattle.tool_script_runner.specs.declared.outcome.RefusedCall.{RefusedCall}
 
--- a line of a script, and what is told of it
+-- a line of a script, and what is reported of it
 abbrev pub script_line : ℕ → List (List ℕ) → List ℕ
 script_line line words = line_of_words (codes "script" ∷ at_line line words)
 

@@ -10,25 +10,25 @@ use Rattle.tool_script_runner.specs.declared.outcome.ScriptFault.{ScriptFault}
 use Rattle.tool_script_runner.specs.declared.outcome.ScriptFault.TheVariants as fault
 use Rattle.tool_script_runner.specs.Answers.{Answered, calls_in, Answers}
 
--- what a call in tick t told is what a run gives; an update tells nothing
+-- what a call in tick t reported is what a run gives; an update reports nothing
 abbrev pub IsGivenBy : Driven → Run → ℕ → Call → List ℤ → Type 0
 IsGivenBy w run t (out_with j values) outputs = outputs ≡ outputs_in w run t j
 IsGivenBy w run t (update_with values) outputs = outputs ≡ []
 
--- what each of these calls from tick t on told is what a run gives
+-- what each of these calls from tick t on reported is what a run gives
 abbrev pub AreGivenBy : Driven → Run → ℕ → List Answered → Type 0
 AreGivenBy w run t [] = ⊤
 AreGivenBy w run t (a ∷ answers) =
     IsGivenBy w run t a.call a.outputs
     × AreGivenBy w run (number_after w.diagram w.system (functions_of w) t a.call) answers
 
--- each of these calls behind a script took what it takes in the program
+-- each of these calls after a script took what it takes in the program
 abbrev pub AreTaken : Driven → List Call → List Answered → Type 0
 AreTaken w script [] = ⊤
 AreTaken w script (a ∷ answers) =
     TakesBehind w script a.call a.cost × AreTaken w (script ++ a.call ∷ []) answers
 
--- The driver stands for the script of these calls, each told what the system gives over every trace
+-- The driver stands for the script of these calls, each reported what the system gives over every trace
 -- that fits that script, and there is such a trace; and each took what it takes in the program.
 pub record AreRight (w : Driven) (answers : List Answered) (d : DriverState) : Type 0 where
   pub stands : StandsFor w d (calls_in answers)

@@ -43,12 +43,12 @@ pub record StoppedByCall (refused : RefusedCall) (script : Script) (s s' : Stand
   pub run : HasRun front.answers s (record s' { driver = before })
   pub refuses : RefusesFirst refused.why front.behind before s'.driver
 
--- the driver stands where these calls found it, or as it refused the first of them
+-- the driver is where these calls found it, or as it refused the first of them
 abbrev pub RefusesOrNot : List Call → DriverState → DriverState → Type 0
 RefusesOrNot calls d d' = (d' ≡ d) ⊎ ((why : DriveFault) × RefusesFirst why calls d d')
 
--- some first calls were answered, the one behind them may have been refused, and a front of their
--- lines was put
+-- some first calls were answered, the one after them may have been refused, and a front of their
+-- lines was printed
 pub record StoppedByOut (script : Script) (s s' : Standing) : Type 0 where
   pub front : Front script
   pub before : DriverState
@@ -66,7 +66,7 @@ abbrev pub taken_script : Parts → DriverState → Script
 taken_script parts d = whole_script_for d parts.taken
 
 -- What a run is stopped by. Where the file can't be read on, each whole line among what was taken
--- is a call that was answered and whose line was put. Memory is taken before the first byte.
+-- is a call that was answered and whose line was printed. Memory is taken before the first byte.
 abbrev pub StoppedReading : ScriptFault → Parts → Standing → Standing → Type 0
 StoppedReading fault.Read parts s s' = RanWhole (taken_script parts s.driver) s s'
 StoppedReading fault.Out parts s s' = StoppedByOut (file_script parts s.driver) s s'
@@ -75,7 +75,7 @@ StoppedReading (fault.Call refused) parts s s' =
     StoppedByCall refused (file_script parts s.driver) s s'
 StoppedReading fault.Memory parts s s' = (s' ≡ s) × (parts.taken ≡ [])
 
--- it was a run over a file that is told to be such where the host tells it: what was taken of it in
+-- it was a run over a file that is reported to be such where the host reports it: what was taken of it in
 -- the call, and what is left
 pub record RunsOver (result : Result (Unit {0}) ScriptFault) (from to : Source)
     (s s' : Standing) : Type 0 where

@@ -18,7 +18,7 @@ pub record Turn : Type 0 where
   pub called : List Bool
   pub given : List (Option ℤ)
 
--- a fault of the call in this line, or else what comes of the lines behind it
+-- an error of the call in this line, or else what comes of the lines after it
 abbrev pub told_on : ℕ → Option DriveFault → Option RefusedCall → Option RefusedCall
 told_on line (Some why) behind = Some (record { line = line; why = why })
 told_on line None behind = behind
@@ -38,7 +38,7 @@ module _ (s : Shape) where
   fault_in turn (update_with values) =
       option_or (early_fault turn.called) (values_fault turn.given (inputs_of s) values)
 
-  -- the tick behind a call that isn't refused
+  -- the tick after a call that isn't refused
   abbrev pub turn_after : Turn → Call → Turn
   turn_after turn (out_with j values) = record {
     called = slice_set turn.called (j - 1) true;
@@ -46,7 +46,7 @@ module _ (s : Shape) where
   }
   turn_after turn (update_with values) = fresh_turn
 
-  -- the first of the calls in the lines behind so many that is refused
+  -- the first of the calls in the lines after so many that is refused
   abbrev pub first_refused : Turn → ℕ → List Call → Option RefusedCall
   first_refused turn count [] = None
   first_refused turn count (c ∷ cs) =

@@ -1,4 +1,4 @@
--- Where the run of a script stands, and what the calls that were answered add to it.
+-- Where the run of a script is, and what the calls that were answered add to it.
 use Rattle.std.specs.Prelude.{◌≡◌, ℕ, List, [], ◌++◌, length, Option}
 use Rattle.std.specs.List.{sum_by}
 use Rattle.std.specs.Io.KnownBytes.{append_known}
@@ -13,15 +13,15 @@ use Rattle.tool_scripts.specs.Scripts.{Script, calls_of, whole_calls_of}
 use Rattle.tool_script_runner.specs.Answers.{Answered, calls_in, Answers}
 use Rattle.tool_script_runner.specs.Texts.{answers_text}
 
--- a driver, what its calls took so far, what was put, where the sink tells it, and the lines that
--- wait to be put
+-- a driver, what its calls took so far, what was printed, where the sink reports it, and the lines that
+-- wait to be printed
 pub record Standing : Type 0 where
   pub driver : DriverState
   pub totals : Totals
   pub put : Option (List ℕ)
   pub waiting : List ℕ
 
--- where a run stands with nothing that waits
+-- where a run is with nothing that waits
 abbrev pub standing : DriverState → Totals → Option (List ℕ) → Standing
 standing driver totals put = record { driver = driver; totals = totals; put = put; waiting = [] }
 
@@ -41,12 +41,12 @@ pub record AreCounted (answers : List Answered) (d d' : DriverState) (t t' : Tot
 abbrev pub HasAnswered : List Answered → Standing → Standing → Type 0
 HasAnswered answers s s' = AreCounted answers s.driver s'.driver s.totals s'.totals
 
--- and their lines were put
+-- and their lines were printed
 pub record HasRun (answers : List Answered) (s s' : Standing) : Type 0 where
   pub answered : HasAnswered answers s s'
   pub put : s'.put ≡ append_known s.put (answers_text answers)
 
--- this text is put or waits behind what waited
+-- this text is printed or waits after what waited
 abbrev pub Takes : List ℕ → Standing → Standing → Type 0
 Takes text s s' = PutsAllBut s'.waiting (s.waiting ++ text) s.put s'.put
 

@@ -1,4 +1,4 @@
--- What the steps of a script's run come to, while lines may wait to be put.
+-- What the steps of a script's run come to, while lines may wait to be printed.
 use Rattle.std.specs.Prelude.{◌≡◌, ℕ, ◌+◌, ◌*◌, ◌^◌, ◌<◌, ◌≤◌, ℤ, pos, List, [], ◌∷◌, ◌++◌, length, take, drop, Option, None, Some}
 use Rattle.base_host.specs.Files.{PutsFront}
 use Rattle.c_syntax.specs.declared.fault.Cost.{Cost}
@@ -21,7 +21,7 @@ use Rattle.tool_script_runner.specs.Texts.{call_text, answers_text}
 use Rattle.tool_script_runner.specs.Standings.{Standing, AreCounted, HasAnswered, Takes}
 use Rattle.tool_script_runner.specs.Runs.{Front, RefusesOrNot}
 
--- where a run stands, with the lines that wait in it
+-- where a run is, with the lines that wait in it
 abbrev pub inside : DriverState → Run → Option (List ℕ) → Standing
 inside driver run put = record {
   driver = driver;
@@ -41,7 +41,7 @@ pub record AreCounts (counts : List ℕ) (shape : Shape) : Type 0 where
   pub are : counts ≡ input_counts shape
   pub few : length counts < 2 ^ 32
 
--- there is room for the values of a call and for what it tells, and the totals are no more than
+-- there is room for the values of a call and for what it reports, and the totals are no more than
 -- those of a script
 pub record HasRoom (run : Run) (shape : Shape) : Type 0 where
   pub values : length run.values.items ≡ length (inputs_of shape)
@@ -63,7 +63,7 @@ pub record IsFilled (run run' : Run) : Type 0 where
 abbrev pub IsCallFor : Shape → Call → Type 0
 IsCallFor shape call = HasItsValues (input_counts shape) (length (inputs_of shape)) call
 
--- a call of function j was answered, and these numbers are its own and those that it told
+-- a call of function j was answered, and these numbers are its own and those that it reported
 pub record IsTold (j : ℕ) (values numbers : List ℤ) (cost : Cost)
     (d d' : DriverState) : Type 0 where
   pub outputs : List ℤ
@@ -71,7 +71,7 @@ pub record IsTold (j : ℕ) (values numbers : List ℤ) (cost : Cost)
   pub answer : IsAnswer (record { call = out_with j values; outputs = outputs; cost = cost }) d d'
 
 -- a call of function j was answered and counted, and these numbers are its own and those that it
--- told
+-- reported
 pub record HasTold (j : ℕ) (values numbers : List ℤ) (d d' : DriverState)
     (t t' : Totals) : Type 0 where
   pub answer : Answered
@@ -90,20 +90,20 @@ pub record HasUpdated (values : List ℤ) (d d' : DriverState) (t t' : Totals) :
   pub counted : AreCounted
       (record { call = update_with values; outputs = []; cost = cost } ∷ []) d d' t t'
 
--- the driver refused a call behind so many lines
+-- the driver refused a call after so many lines
 pub record IsRefusedOn (count : ℕ) (refused : RefusedCall) (call : Call)
     (d d' : DriverState) : Type 0 where
   pub line : refused.line ≡ count + 1
   pub refuses : IsRefused refused.why call d d'
 
--- a call was answered and counted, and its line is put or waits
+-- a call was answered and counted, and its line is printed or waits
 pub record GoesOn (call : Call) (s s' : Standing) : Type 0 where
   pub answer : Answered
   pub of_call : answer.call ≡ call
   pub answered : HasAnswered (answer ∷ []) s s'
   pub line : Takes (call_text call answer.outputs) s s'
 
--- the driver refused a call, and nothing was counted or put
+-- the driver refused a call, and nothing was counted or printed
 pub record RefusedOn (count : ℕ) (refused : RefusedCall) (call : Call)
     (s s' : Standing) : Type 0 where
   pub refuses : IsRefusedOn count refused call s.driver s'.driver
@@ -111,14 +111,14 @@ pub record RefusedOn (count : ℕ) (refused : RefusedCall) (call : Call)
   pub put : s'.put ≡ s.put
   pub waiting : s'.waiting ≡ s.waiting
 
--- a call was answered and counted, and a front put of what waited and its line
+-- a call was answered and counted, and a front printed of what waited and its line
 pub record CutOn (call : Call) (s s' : Standing) : Type 0 where
   pub answer : Answered
   pub of_call : answer.call ≡ call
   pub answered : HasAnswered (answer ∷ []) s s'
   pub put : PutsFront s.put s'.put (s.waiting ++ call_text call answer.outputs)
 
--- why a call behind so many lines ends a run
+-- why a call after so many lines ends a run
 abbrev pub StopsOn : ScriptFault → ℕ → Call → Standing → Standing → Type 0
 StopsOn fault.Read count call s s' = ⊥
 StopsOn fault.Out count call s s' = CutOn call s s'
@@ -128,12 +128,12 @@ StopsOn fault.Memory count call s s' = ⊥
 
 -- ---- Calls one after another
 
--- these calls were answered and counted, and their lines are put or wait
+-- these calls were answered and counted, and their lines are printed or wait
 pub record Runs (answers : List Answered) (s s' : Standing) : Type 0 where
   pub answered : HasAnswered answers s s'
   pub lines : Takes (answers_text answers) s s'
 
--- the text is whole lines behind so many others, whose calls were answered
+-- the text is whole lines after so many others, whose calls were answered
 pub record RunsThrough (text counts : List ℕ) (all count count' : ℕ)
     (s s' : Standing) : Type 0 where
   pub answers : List Answered
@@ -172,7 +172,7 @@ pub record RunsToCall (count : ℕ) (refused : RefusedCall) (script : Script)
   pub runs : Runs front.answers s (record s' { driver = before })
   pub refuses : RefusesFirst refused.why front.behind before s'.driver
 
--- some first calls were answered, the one behind them may have been refused, and a front was put of
+-- some first calls were answered, the one after them may have been refused, and a front was printed of
 -- what waited and of their lines
 pub record RunsToOut (script : Script) (s s' : Standing) : Type 0 where
   pub front : Front script
@@ -181,7 +181,7 @@ pub record RunsToOut (script : Script) (s s' : Standing) : Type 0 where
   pub last : RefusesOrNot front.behind before s'.driver
   pub put : PutsFront s.put s'.put (s.waiting ++ answers_text front.answers)
 
--- what a step over a script behind so many lines is stopped by
+-- what a step over a script after so many lines is stopped by
 abbrev pub RunsTo : ScriptFault → ℕ → Script → Standing → Standing → Type 0
 RunsTo fault.Read count script s s' = ⊥
 RunsTo fault.Out count script s s' = RunsToOut script s s'

@@ -39,7 +39,7 @@ impl Run {
     }
 }
 
-// A call of a function. Its number and what it told are put into `numbers`.
+// A call of a function. Its number and what it reported are written into `numbers`.
 fn call_function(
     driver: &mut Driver,
     function: u32,
@@ -58,7 +58,7 @@ fn call_function(
     driver.call(function, values, &mut numbers[1..])
 }
 
-// A call of a function with the first values. Says what it took, and how many numbers, its own in front, it told.
+// A call of a function with the first values. Says what it took, and how many numbers, its own in front, it reported.
 fn call_with(
     driver: &mut Driver,
     function: u32,
@@ -84,7 +84,7 @@ fn call_with(
     }
 }
 
-// A call of a function with the first values, counted. Says how many numbers, its own in front, it told.
+// A call of a function with the first values, counted. Says how many numbers, its own in front, it reported.
 fn call_out(
     run: &mut Run,
     driver: &mut Driver,
@@ -120,7 +120,7 @@ fn call_out(
     }
 }
 
-// The call of a function: it is counted, and its line is put or waits.
+// The call of a function: it is counted, and its line is printed or waits.
 fn answer_out<S: Sink>(
     run: &mut Run,
     driver: &mut Driver,
@@ -197,7 +197,7 @@ fn answer_update(run: &mut Run, driver: &mut Driver, count: usize) -> Result<(),
     }
 }
 
-/// The call of a line that was read: it is made and counted, and its line, if it has one, is put or waits.
+/// The call of a line that was read: it is made and counted, and its line, if it has one, is printed or waits.
 pub(crate) fn answer<S: Sink>(
     run: &mut Run,
     driver: &mut Driver,

@@ -8,7 +8,7 @@ ghost use Rattle.tool_runner.specs.Texts.{outputs_line};
 use base_host::{Failed, PutBuffer, Sink};
 use tool_runner::put_line;
 
-// Puts the line of a call, by the function's number and the outputs that it told behind it.
+// Prints the line of a call, by the function's number and after it the outputs that it reported.
 pub(crate) fn put_call<S: Sink>(
     lines: &mut PutBuffer,
     sink: &mut S,

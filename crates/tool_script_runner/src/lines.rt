@@ -82,7 +82,7 @@ fn answer_last<S: Sink>(
     }
 }
 
-/// The call of each whole line of the text. Says where the last of them ends, and puts all that waits, however it ends.
+/// The call of each whole line of the text. Says where the last of them ends, and prints all that waits, however it ends.
 pub(crate) fn run_lines<S: Sink>(
     run: &mut Run,
     driver: &mut Driver,
@@ -119,7 +119,7 @@ pub(crate) fn run_lines<S: Sink>(
     ran
 }
 
-/// The call of the text as a last line without an end, where it isn't empty. Puts all that waits, however it ends.
+/// The call of the text as a last line without an end, where it isn't empty. Prints all that waits, however it ends.
 pub(crate) fn run_last<S: Sink>(
     run: &mut Run,
     driver: &mut Driver,

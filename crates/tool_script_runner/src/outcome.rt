@@ -15,7 +15,7 @@ pub struct RefusedCall {
 pub enum ScriptFault {
     /// The script can't be read.
     Read,
-    /// A line can't be put.
+    /// A line can't be printed.
     Out,
     /// The first line of the script that is no call by itself.
     Line(BadCall),

@@ -6,7 +6,7 @@ use base_host::PutBuffer;
 use std::alloc::{AllocError, Global};
 use tool_runner::Totals;
 
-/// The values of a call, the number of a function with what it told, the lines that wait to be put, how many calls were
+/// The values of a call, the number of a function with what it reported, the lines that wait to be printed, how many calls were
 /// answered, and what they took.
 #[derive(Drop)]
 pub(crate) struct Run {

@@ -67,19 +67,19 @@ fn run_pieces<H: Host, S: Sink>(
     }
 }
 
-/// Makes the calls of the open file's lines through the driver, each once and in order, and puts a line for each `out`: that
-/// word, the function's number and the outputs that it gives by port, in decimal, with a space between each two. `update` puts
+/// Makes the calls of the open file's lines through the driver, each once and in order, and prints a line for each `out`: that
+/// word, the function's number and the outputs that it gives by port, in decimal, with a space between each two. `update` prints
 /// nothing, and the script may end within a tick.
 ///
 /// The file is read piece by piece: the memory that is taken doesn't grow with it. All lines of the calls that were read are
-/// put before the file is read on. The totals count the updates as ticks, and the steps and calls that the driver's calls took.
+/// printed before the file is read on. The totals count the updates as ticks, and the steps and calls that the driver's calls took.
 ///
 /// # Errors
 ///
 /// `Line` exactly at the first line that is no call by itself, and `Call` exactly at the first line before it whose call the
-/// driver refuses, by its number from 1; `Read` only where the host counted a fault: then the lines of all whole lines among the
-/// bytes that were read stand; `Out` only where the sink counted a fault, with a front of the lines; and `Memory` where memory ran
-/// out, before anything was read, called or put. The lines of the calls before a fault stand, and the driver and the totals are as
+/// driver refuses, by its number from 1; `Read` only where the host counted an error: then the lines of all whole lines among the
+/// bytes that were read stay; `Out` only where the sink counted an error, with a front of the lines; and `Memory` where memory ran
+/// out, before anything was read, called or printed. The lines of the calls before an error stay, and driver and totals are as
 /// the calls left them.
 pub fn run_script<H: Host, S: Sink>(
     alloc: Global,

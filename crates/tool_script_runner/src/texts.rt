@@ -1,4 +1,4 @@
-// The lines that tell what a script is stopped by.
+// The lines that say what a script is stopped by.
 ghost use Rattle.std.specs.Prelude.{◌≡◌, ◌++◌, ◌∷◌, ◌<◌, IfOk, OnOk, string_bytes, codes, decimal, flat_map, map};
 ghost use Rattle.base_core.specs.Ports.{has_bit};
 ghost use Rattle.tool_script_runner.specs.FaultTexts as text;
@@ -33,7 +33,7 @@ pub fn bad_call_line(alloc: Global, bad: BadCall) -> Result<String, Memory>
 
 /// The line for a line of a script whose call the driver refused: its number from 1 and why, with the number of the function
 /// that was called twice, those of all functions that weren't called before an update, or the input and its values. A machine
-/// that is stuck, which never comes in right code, is told by that word alone.
+/// that is stuck, which never comes in right code, is reported by that word alone.
 ///
 /// # Errors
 ///
@@ -68,7 +68,7 @@ fn early_line(alloc: Global, line: u32, missing: u64) -> Result<String, Memory>
     Ok(told)
 }
 
-// Appends the numbers of the functions in a mask, each behind a space.
+// Appends the numbers of the functions in a mask, each after a space.
 fn push_functions(out: &mut String, mask: u64) -> Result<(), Memory>
     ensures { OnOk result (string_bytes out.new
         ≡ string_bytes out.old ++ flat_map (λ j. 32 ∷ decimal j) (text.functions_in mask)) }

@@ -16,7 +16,7 @@ moved : (front : List ℤ) (number : ℤ) (more : Option (List ℤ)) →
 moved front number None = refl
 moved front number (Some xs) = ap (λ ys. Some ys) (sym (append_assoc front (number ∷ []) xs))
 
--- one number more was read, into the item behind the others or into none
+-- one number more was read, into the item after the others or into none
 further : (all left more : Option (List ℤ)) (found : ℕ) (into into' : List ℤ) (number : ℤ) → left ≡ with_number (Some number) more →
     (so : ReadSoFar all left found into) → take (found + 1) into' ≡ take (length into') (so.front ++ number ∷ []) →
     ReadSoFar all more (found + 1) into'

@@ -30,14 +30,14 @@ call_of_function counts number values None = Err (NoFunction number)
 call_of_function counts number values (Some j) =
     counted (count_of counts j) values (out_with j values)
 
--- the call of the numbers behind the word `out`: a function's, and values
+-- the call of the numbers after the word `out`: a function's, and values
 abbrev pub out_of_numbers : List ℕ → Option (List ℤ) → Result Call ScriptWhy
 out_of_numbers counts None = Err Form
 out_of_numbers counts (Some []) = Err Form
 out_of_numbers counts (Some (number ∷ values)) =
     call_of_function counts number values (function_numbered (length counts) number)
 
--- the call of the numbers behind the word `update`, of which there have to be so many
+-- the call of the numbers after the word `update`, of which there have to be so many
 abbrev pub update_of_numbers : ℕ → Option (List ℤ) → Result Call ScriptWhy
 update_of_numbers all None = Err Form
 update_of_numbers all (Some values) = counted all values (update_with values)

@@ -2,7 +2,7 @@
 use Rattle.std.specs.Prelude.{◌≡◌, ℕ, List, [], ◌∷◌, length, take, Option, None, Some, ℤ}
 use Rattle.tool_traces.specs.Fields.{field_number}
 
--- a number in front of those behind it, if all are there
+-- a number in front of those after it, if all are there
 abbrev pub with_number : Option ℤ → Option (List ℤ) → Option (List ℤ)
 with_number None numbers = None
 with_number (Some number) None = None

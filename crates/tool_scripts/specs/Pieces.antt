@@ -1,4 +1,4 @@
--- A script that comes in pieces: what a text means behind some lines, and before whatever follows.
+-- A script that comes in pieces: what a text means after some lines, and before whatever follows.
 use Rattle.std.specs.Prelude.{◌≡◌, ℕ, ◌+◌, ◌-◌, ◌<◌, ◌≤◌, List, [], ◌∷◌, ◌++◌, length, take, drop, None, Some}
 use Rattle.std.specs.Str.Lines.{lines}
 use Rattle.tool_traces.specs.Lines.{whole_lines}
@@ -8,7 +8,7 @@ use Rattle.tool_scripts.specs.declared.walk.BadCall.{BadCall}
 use Rattle.tool_scripts.specs.Calls.{HasItsValues}
 use Rattle.tool_scripts.specs.Scripts.{Script, calls_behind}
 
--- the calls of a text behind so many lines: those of its lines, and those of its whole lines
+-- the calls of a text after so many lines: those of its lines, and those of its whole lines
 abbrev pub calls_after : ℕ → (counts : List ℕ) (all : ℕ) → List ℕ → Script
 calls_after count counts all text = calls_behind count counts all (lines text)
 
@@ -35,7 +35,7 @@ abbrev pub BeginsBadly : BadCall → (text : List ℕ) (counts : List ℕ) (all 
 BeginsBadly bad text counts all count = (behind : List ℕ) →
     calls_after count counts all (text ++ behind) ≡ record { calls = []; bad = Some bad }
 
--- a line with its end stands from a place on, and is this call
+-- a line with its end lies from a place on, and is this call
 pub record IsNextCall (text : List ℕ) (counts : List ℕ) (all : ℕ) (count from after : ℕ)
     (call : Call) : Type 0 where
   pub goes_on : from < after

@@ -14,13 +14,13 @@ pub record Script : Type 0 where
   pub calls : List Call
   pub bad : Option BadCall
 
--- a line's call in front of the calls of the lines behind it
+-- a line's call in front of the calls of the lines after it
 abbrev pub with_call : ℕ → Result Call ScriptWhy → Script → Script
 with_call line (Ok call) script = record { calls = call ∷ script.calls; bad = script.bad }
 with_call line (Err why) script =
     record { calls = []; bad = Some (record { line = line; why = why }) }
 
--- the calls of the lines behind so many others
+-- the calls of the lines after so many others
 abbrev pub calls_behind : ℕ → (counts : List ℕ) (all : ℕ) → List (List ℕ) → Script
 calls_behind line counts all [] = record { calls = []; bad = None }
 calls_behind line counts all (text ∷ texts) =

@@ -13,9 +13,9 @@ use tool_traces::{LONGEST_LINE, field_number, next_field};
 pub enum ScriptWhy {
     /// It has more than 4,096 bytes without its end.
     Long,
-    /// As many lines as a script may have stand before it.
+    /// As many lines as a script may have are before it.
     Many,
-    /// It doesn't begin with `update`, or with `out` and a number, or a field behind that word is no number of 1 to 18
+    /// It doesn't begin with `update`, or with `out` and a number, or a field after that word is no number of 1 to 18
     /// digits.
     Form,
     /// This number is no function's.
@@ -43,7 +43,7 @@ pub struct ReadCall {
 }
 
 /// Reads the call that a line without its end asks for: `out`, a function's number and the values of its inputs, or
-/// `update` and the values of all inputs. Spaces and tabs part the fields, and may stand at both ends.
+/// `update` and the values of all inputs. Spaces and tabs part the fields, and may be at both ends.
 ///
 /// `counts` has for each function, from number 1 on, how many inputs it takes, its controls among them. `into` has one
 /// item for each input of the system, its controls among them, and gets the values in its first items.
@@ -74,7 +74,7 @@ pub fn read_call(text: &[u8], counts: &[u32], into: &mut [i64]) -> Result<ReadCa
     }
 }
 
-// The call of an output function, by what stands behind its word.
+// The call of an output function, by what is after its word.
 fn read_out(text: &[u8], counts: &[u32], into: &mut [i64]) -> Result<ReadCall, ScriptWhy>
     requires few { length counts.now < 2 ^ 32 }
     requires most { All (λ count. count ≤ length into.old) counts.now }
@@ -105,7 +105,7 @@ fn read_out(text: &[u8], counts: &[u32], into: &mut [i64]) -> Result<ReadCall, S
     )
 }
 
-// The call of the update function, by what stands behind its word.
+// The call of the update function, by what is after its word.
 fn read_update(text: &[u8], into: &mut [i64]) -> Result<ReadCall, ScriptWhy>
     requires short { length text.now ≤ 4096 }
     ensures call { MatchResult result

@@ -5,7 +5,7 @@ ghost use Rattle.tool_scripts.specs.Numbers.{numbers_of, HasRead};
 
 use tool_traces::{field_number, next_field};
 
-// How many numbers the fields of the text write. The first of them are put into `into`, as many as it has room for. None
+// How many numbers the fields of the text write. The first of them are written into `into`, as many as it has room for. None
 // where a field writes no number.
 pub(crate) fn read_numbers(text: &[u8], into: &mut [i64]) -> Option<usize>
     ensures numbers { MatchOption result (numbers_of (fields text.now) ≡ None)

@@ -20,7 +20,7 @@ pub struct BadCall {
     pub why: ScriptWhy,
 }
 
-/// Reads the call of the line that begins at the place `from` of the bytes, behind so many `lines`, its values into the first
+/// Reads the call of the line that begins at the place `from` of the bytes, after so many `lines`, its values into the first
 /// items of `into`, and says where the script goes on. None where that line's end isn't there.
 ///
 /// `counts` and `into` are those of `read_call`.
@@ -64,7 +64,7 @@ pub fn next_call(
     }
 }
 
-/// Reads the call of a last line, which has no end, behind so many `lines`, its values into the first items of `into`. None
+/// Reads the call of a last line, which has no end, after so many `lines`, its values into the first items of `into`. None
 /// where it is empty, and so no line.
 ///
 /// `counts` and `into` are those of `read_call`.

@@ -1,4 +1,4 @@
--- What a machine's run over a file comes to, of a machine behind its start.
+-- What a machine's run over a file comes to, of a machine after its start.
 use Rattle.std.proofs.Common.{◌≡◌, ℕ, inr, List, [], ◌∷◌, ◌++◌, sym, ap, subst, ◌∙◌, arith}
 use Rattle.std.specs.Prelude.{Option, Some, None, IfSome, Result, Ok, Err, ℤ, unwrap_or}
 use Rattle.std.specs.List.{AllZip}
@@ -33,7 +33,7 @@ pub narrow : (types : List FixType) → AllZip IsNarrower types types
 narrow [] = tt
 narrow (t ∷ ts) = ((λ v is. is), narrow ts)
 
--- the ticks of a machine behind its start are those of the program
+-- the ticks of a machine after its start are those of the program
 same-rows : (m : MachineState) (totals : Totals) (put : Option (List ℕ)) (rows : List (List ℤ)) → IsBehindStart m →
     ticks_over (standing m totals put) rows ≡ c_rows (tree_of m) rows
 same-rows m totals put rows (after, start, fields) =
@@ -42,7 +42,7 @@ same-rows m totals put rows (after, start, fields) =
 some-bytes : (x y : List ℕ) → Some x ≡ Some y → x ≡ y
 some-bytes x y e = ap (λ (o : Option (List ℕ)). unwrap_or o x) e
 
--- what was taken of a file that is told, and what is left of it, are its bytes
+-- what was taken of a file that is reported, and what is left of it, are its bytes
 both-parts : (rest rest' : Option (List ℕ)) (told : List ℕ) (parts : Parts) → rest ≡ Some told →
     rest ≡ prepend_known parts.taken rest' → IfSome rest' (λ x. x ≡ parts.left) → told ≡ parts.taken ++ parts.left
 both-parts rest None told parts is took left =
@@ -63,7 +63,7 @@ on-file rest name h h' opened parts P took left holds = record {
 same-totals : (t u : Totals) → t.ticks ≡ u.ticks → t.steps ≡ u.steps → t.calls ≡ u.calls → t ≡ u
 same-totals t u ticks steps calls = λ i. record { ticks = ticks i; steps = steps i; calls = calls i }
 
--- totals behind none are themselves
+-- totals after none are themselves
 behind-none : (t : Totals) → added no_totals t ≡ t
 behind-none t = same-totals (added no_totals t) t (omega arith) (omega arith) (omega arith)
 

@@ -1,4 +1,4 @@
--- A machine behind its start, by what its making says.
+-- A machine after its start, by what its making says.
 use Rattle.std.specs.Prelude.{List, ℕ}
 use Rattle.std.proofs.Common.{sym, subst}
 use Rattle.c_syntax.specs.Plain.{program_tree}

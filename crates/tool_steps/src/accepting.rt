@@ -43,7 +43,7 @@ fn accept_text(alloc: Global, text: &[u8]) -> Result<AcceptedFile, ModelFault>
 /// # Errors
 ///
 /// `Refused` with the first refusal of the file's bytes, too many of them among the refusals; `ReadFault` only where the host
-/// counted a fault; and `NoMemory` where memory ran out.
+/// counted an error; and `NoMemory` where memory ran out.
 pub fn accept_file<H: Host>(
     alloc: Global,
     host: &mut H,

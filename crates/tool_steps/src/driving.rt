@@ -41,7 +41,7 @@ pub fn driver_in(
     accepted_tables_are_well_formed();
     let machine = match started(alloc, &compiled.code) {
         Ok(machine) => machine,
-        // Right code is read and starts, so that memory alone can be wanting.
+        // Right code is read and starts, so that only memory can run out.
         Err(ending) => return Err(ending),
     };
     match driver_of(alloc, r, system, machine) {

@@ -13,13 +13,13 @@ use tool_endings::Ending;
 /// The most bytes that a C file has.
 const MOST_CODE: usize = 536_870_912;
 
-/// Runs the file `code` over the file `trace`, and puts a line for each tick. The numbers of a row are stored integers of the
+/// Runs the file `code` over the file `trace`, and prints a line for each tick. The numbers of a row are stored integers of the
 /// types that the code's step takes. Nothing is written.
 ///
-/// It ends with `Ran` and the totals where all rows were run, `CodeTooLong` beyond 512 MiB, `CodeRefused` with the first fault of
+/// It ends with `Ran` and the totals where all rows were run, `CodeTooLong` beyond 512 MiB, `CodeRefused` with the first error of
 /// code that is no program, `BadTrace` at the first line that is no row, `Stuck` where the program is stuck in its start or before
-/// such a line, `ReadFault` and `PutFault` only where the host or the sink counted a fault, and `NoMemory` where memory ran out
-/// before anything was put. The lines of the ticks before stand, at `PutFault` a front of them.
+/// such a line, `ReadFault` and `PutFault` only where the host or the sink counted an error, and `NoMemory` where memory ran out
+/// before anything was printed. The lines of the ticks before stay, at `PutFault` a front of them.
 pub fn exec_code<H: Host, S: Sink>(
     alloc: Global,
     host: &mut H,

@@ -14,7 +14,7 @@ use tool_endings::Ending;
 /// Makes the report on the systems of the file `model`. Nothing is written.
 ///
 /// It ends with `Reported` and the text where the rules accept the file, `Refused` with its first refusal, too many bytes among
-/// the refusals, `ReadFault` only where the host counted a fault, and `NoMemory` where memory ran out.
+/// the refusals, `ReadFault` only where the host counted an error, and `NoMemory` where memory ran out.
 pub fn profile_model<H: Host>(alloc: Global, host: &mut H, model: &str) -> Ending
     ensures ends { let at = told H.files H.rest H.given H.written H.sure H.read_faults H.write_faults in
         EndsProfiling result model.now (at host.old) (at host.new) }

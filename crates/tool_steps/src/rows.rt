@@ -12,12 +12,12 @@ use std::alloc::Global;
 use tool_endings::Ending;
 use tool_runner::{RunFault, Totals, run_bytes};
 
-/// Runs the rows of a trace's bytes through a machine behind its start, one tick for each, and puts a line for each tick. The
+/// Runs the rows of a trace's bytes through a machine after its start, one tick for each, and prints a line for each tick. The
 /// numbers of a row are stored integers of these types, each within the type of its input.
 ///
 /// It ends with `Ran` and the totals where all rows were run, `BadTrace` at the first line that is no row, `Stuck` where the
-/// program is stuck before such a line, `PutFault` only where the sink counted a fault, and `NoMemory` where memory ran out before
-/// anything was put. The lines of the ticks before stand, at `PutFault` a front of them.
+/// program is stuck before such a line, `PutFault` only where the sink counted an error, and `NoMemory` where memory ran out before
+/// anything was printed. The lines of the ticks before stay, at `PutFault` a front of them.
 pub fn run_rows<S: Sink>(
     alloc: Global,
     out: &mut S,

@@ -12,12 +12,12 @@ use tool_endings::{Ending, ScriptStop};
 use tool_runner::Totals;
 use tool_script_runner::{ScriptFault, run_script, scripts_are_driven};
 
-/// Makes the calls of the file `script` by a driver that stands for the empty script, each once and in order, and puts a line for
+/// Makes the calls of the file `script` by a driver that stands for the empty script, each once and in order, and prints a line for
 /// each call of an output function. Nothing is written.
 ///
 /// It ends with `Ran` and the totals where all calls were made, `BadScript` at the first line that is no call or whose call is
-/// refused, `ReadFault` and `PutFault` only where the host or the sink counted a fault, and `NoMemory` where memory ran out before
-/// anything was put. The lines of the calls before stand, at `PutFault` a front of them.
+/// refused, `ReadFault` and `PutFault` only where the host or the sink counted an error, and `NoMemory` where memory ran out before
+/// anything was printed. The lines of the calls before stay, at `PutFault` a front of them.
 pub fn drive_file<H: Host, S: Sink>(
     alloc: Global,
     host: &mut H,

@@ -6,11 +6,11 @@ use c_reader::{ReadCFault, read_c};
 use std::alloc::Global;
 use tool_endings::Ending;
 
-/// The machine of the program that a C text is, behind its start.
+/// The machine of the program that a C text is, after its start.
 ///
 /// # Errors
 ///
-/// `CodeRefused` with the first fault of a text that is no program, `Stuck` where the program is stuck in its start, and
+/// `CodeRefused` with the first error of a text that is no program, `Stuck` where the program is stuck in its start, and
 /// `NoMemory` where memory ran out.
 pub fn started(alloc: Global, bytes: &[u8]) -> Result<Machine, Ending>
     ensures started { IfOk result (λ machine. StartsFrom bytes.now machine) }

@@ -14,12 +14,12 @@ use std::alloc::Global;
 use tool_endings::Ending;
 use tool_runner::{RunFault, Totals, run_trace};
 
-/// Runs the rows of the file `trace` through a machine behind its start, one tick for each, and puts a line for each tick. The
+/// Runs the rows of the file `trace` through a machine after its start, one tick for each, and prints a line for each tick. The
 /// numbers of a row are stored integers of these types, each within the type of its input. Nothing is written.
 ///
 /// It ends with `Ran` and the totals where all rows were run, `BadTrace` at the first line that is no row, `Stuck` where the
-/// program is stuck before such a line, `ReadFault` and `PutFault` only where the host or the sink counted a fault, and `NoMemory`
-/// where memory ran out before anything was put. The lines of the ticks before stand, at `PutFault` a front of them.
+/// program is stuck before such a line, `ReadFault` and `PutFault` only where the host or the sink counted an error, and `NoMemory`
+/// where memory ran out before anything was printed. The lines of the ticks before stay, at `PutFault` a front of them.
 pub fn run_file<H: Host, S: Sink>(
     alloc: Global,
     host: &mut H,

@@ -1,4 +1,4 @@
--- The systems of a table: the root, and the subsystem rows; the system around a subsystem is one of them, and stands before it.
+-- The systems of a table: the root, and the subsystem rows; the system around a subsystem is one of them, and is before it.
 use Rattle.std.specs.Prelude.{◌≡◌, ℕ, suc, ◌<◌, true, ◌&&◌, List, map, length, Contains, Option, Some, None, refl}
 use Rattle.std.proofs.Common.{subst, arith, inl, inr}
 use Rattle.std.proofs.lemmas.Bool.{and_from, and_parts}
@@ -10,7 +10,7 @@ use Rattle.diagram_meaning.specs.WellFormed.{IsNested, IsOwner}
 use Rattle.modules_profile.specs.Systems.{systems, systems_inside}
 use Rattle.modules_profile.proofs.lemmas.Members.{in-first, in-rest, in-cases, in-map, of-map, in-filter, of-filter, in-range, of-range}
 
--- how far a system stands in the table: outward it falls
+-- how far a system is in the table: outward it falls
 abbrev pub rank : Option ℕ → ℕ
 rank None = 0
 rank (Some e) = suc e
@@ -26,7 +26,7 @@ module _ (rows : List Row) where
       let high = (of-range 0 (length rows) e kept.0).1 in
       (omega (arith, high), (and_parts (is_subsystem (row_at rows e).kind) (is_inside rows None e) kept.1).0)
 
-  -- the systems behind the root are those of subsystem rows
+  -- the systems after the root are those of subsystem rows
   pub of-systems : (e : ℕ) → Contains (systems rows) (Some e) → IsSubsystem e
   of-systems e has = elim (in-cases None (Some e) (map Some (systems_inside rows None)) has) [
     | inl same ↦ absurd (none-some e same)

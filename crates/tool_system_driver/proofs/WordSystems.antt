@@ -8,7 +8,7 @@ use Rattle.modules_profile.specs.Systems.{systems, systems_inside}
 use Rattle.modules_profile.proofs.lemmas.Members.{found-in}
 use Rattle.tool_system_driver.specs.Words.{subsystem_word, system_named, is_named}
 
--- the first of those behind a constructor
+-- the first of those after a constructor
 find-some : (p : Option ℕ → Bool) (xs : List ℕ) → find p (map Some xs) ≡ option_map Some (find (λ e. p (Some e)) xs)
 find-some p [] = refl
 find-some p (x ∷ xs) = by (p (Some x)) (find-some p xs)

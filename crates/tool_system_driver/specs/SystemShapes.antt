@@ -1,4 +1,4 @@
--- What a driver is told of a system of a model.
+-- What a driver knows of a system of a model.
 use Rattle.std.specs.Prelude.{◌≡◌, ℕ, List, length, map, Option}
 use Rattle.std.specs.List.{range_with_len}
 use Rattle.base_core.specs.declared.Port.TheVariants.{Number}

@@ -48,7 +48,7 @@ fn typed_controls(
 
 /// The controls of a system with their types, an enable before a trigger.
 ///
-/// Fails only for want of memory.
+/// Fails only when memory runs out.
 pub(crate) fn controls_of(
     alloc: Global,
     r: &Resolved,

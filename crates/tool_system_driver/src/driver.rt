@@ -17,7 +17,7 @@ use tool_driver::Driver;
 /// A driver of a system of a model, over a machine of the model's code as `root_start` left it. It stands for the empty
 /// script of the system: nothing is called, and the next tick is the first.
 ///
-/// Fails only for want of memory.
+/// Fails only when memory runs out.
 pub fn driver_of(
     alloc: Global,
     r: &Resolved,

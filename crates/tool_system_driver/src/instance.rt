@@ -26,7 +26,7 @@ fn found(r: &Resolved, machine: &Machine, system: Option<u32>, child: Option<u32
 /// The number of the instance of a system in a machine of the model's code. It is in the field of the system's name, of the
 /// instance of the system around it; that of the root is in the field `top` of instance 0.
 ///
-/// Fails only for want of memory.
+/// Fails only when memory runs out.
 pub(crate) fn instance_of(
     alloc: Global,
     r: &Resolved,

@@ -72,7 +72,7 @@ fn row_with(rows: &[Row], system: Option<u32>, side: Side, port: usize) -> Optio
 
 /// The rows that are the ports on a side of a system, by number.
 ///
-/// Fails only for want of memory.
+/// Fails only when memory runs out.
 pub(crate) fn rows_by_port(
     alloc: Global,
     rows: &[Row],
@@ -93,7 +93,7 @@ pub(crate) fn rows_by_port(
 
 /// The types of some rows.
 ///
-/// Fails only for want of memory.
+/// Fails only when memory runs out.
 pub(crate) fn types_at(
     alloc: Global,
     types: &[FixType],
@@ -111,7 +111,7 @@ pub(crate) fn types_at(
 
 /// The names of the fields for the values of some rows.
 ///
-/// Fails only for want of memory.
+/// Fails only when memory runs out.
 pub(crate) fn value_names(alloc: Global, rows: &[usize]) -> Result<Vec<Text>, Memory>
     ensures { IfOk result (λ v. v.items ≡ map value_field rows.now) }
 {

@@ -24,7 +24,7 @@ fn profile_in(profiles: &[Profile], system: Option<u32>) -> &Profile
 
 /// The profile of a system of a model.
 ///
-/// Fails only for want of memory.
+/// Fails only when memory runs out.
 pub(crate) fn profile_of(
     alloc: Global,
     r: &Resolved,

@@ -23,10 +23,10 @@ use modules_profile::profiles_are_one;
 use std::alloc::Global;
 use tool_driver::DriveShape;
 
-/// What a driver is told of a system of a model: its name, its output functions with the inputs that each takes, the types
+/// What a driver knows of a system of a model: its name, its output functions with the inputs that each takes, the types
 /// of its inputs and controls, the fields of its outputs, and after how many ticks all sample times meet again.
 ///
-/// Fails only for want of memory.
+/// Fails only when memory runs out.
 pub fn shape_of(alloc: Global, r: &Resolved, system: System) -> Result<DriveShape, Memory>
     requires { Contains (systems r.now.tree.table.rows) system.row }
     ensures shape { IfOk result (IsShapeOf (table_of_tree r.now) system.row) }

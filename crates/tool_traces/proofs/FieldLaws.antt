@@ -34,7 +34,7 @@ blanks_in_front (c ∷ cs) = by_test (blanks_in_front cs) (is_blank c) refl
         ∙ ap (λ t. filter is_some_text (cond t ([] ∷ slice_split is_blank cs) (onto_first c (slice_split is_blank cs)))) (sym e)
     by_test more false e = refl
 
--- the parts behind the first one, by the text from the first blank on
+-- the parts after the first one, by the text from the first blank on
 abbrev parts_behind : List ℕ → List (List ℕ)
 parts_behind [] = []
 parts_behind (c ∷ cs) = slice_split is_blank cs
@@ -93,7 +93,7 @@ plain_front text some =
     let within : blanks < length text = omega (arith, length-drop blanks text) in
     ap is_blank (get_or-drop blanks text 0 0 ∙ ap (λ k. get_or text k 0) (add-zero blanks)) ∙ prefix_len_stops is_blank text 0 within
 
--- the first field stands behind the first blanks
+-- the first field is after the first blanks
 pub first_field : (text rest : List ℕ) → rest ≡ drop_while is_blank text → 0 < length rest →
     fields text ≡ take (plain_len rest) rest ∷ fields (drop (plain_len rest) rest)
 first_field text rest is some =

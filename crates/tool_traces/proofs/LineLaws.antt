@@ -136,7 +136,7 @@ unended text none = by_test (line_len text == length text) refl
         let apart : line_len text ≢ length text = eqb-false (line_len text) (length text) part in
         absurd (some_line _ _ (sym (first_whole_line text (omega (arith, len-le text))) ∙ none))
 
--- ---- A text and what stands behind it
+-- ---- A text and what is after it
 
 pub kept_same : (text behind : List ℕ) (n : ℕ) → n ≤ length text → kept_len (text ++ behind) n ≡ kept_len text n
 kept_same text behind zero within = refl
@@ -185,7 +185,7 @@ is_head text part = record { size = size; len = by_test (line_len (head_of text)
         let apart : line_len (head_of text) ≢ length (head_of text) = eqb-false (line_len (head_of text)) (length (head_of text)) part in
         sym (parted ∙ len_same (head_of text) (drop (line_len text + 1) text) (omega (arith, len-le (head_of text))))
 
--- what a first line with its end keeps, and where it ends, whatever stands behind it
+-- what a first line with its end keeps, and where it ends, whatever is after it
 record HeadBefore (text behind : List ℕ) : Type 0 where
   part : line_len (head_of text ++ behind) < length (head_of text ++ behind)
   line : take (kept_len (head_of text ++ behind) (line_len (head_of text ++ behind))) (head_of text ++ behind)
@@ -234,7 +234,7 @@ pub record FirstLine (text : List ℕ) (P : List ℕ → Type 0) : Type 0 where
   pub is : lines text ≡ line ∷ behind
   pub has : P line
 
--- a first line that is too long stays so, whatever stands behind the text
+-- a first line that is too long stays so, whatever is after the text
 pub long_ended : (text behind : List ℕ) → line_len text < length text → 4096 < kept_len text (line_len text) →
     FirstLine (text ++ behind) (λ line. 4096 < length line)
 long_ended text behind part long =

@@ -1,4 +1,4 @@
--- A trace that comes in pieces: what a text means behind some lines, and before whatever follows.
+-- A trace that comes in pieces: what a text means after some lines, and before whatever follows.
 use Rattle.std.specs.Prelude.{◌≡◌, ℕ, ◌+◌, ◌-◌, ◌<◌, ◌≤◌, ℤ, List, [], ◌∷◌, ◌++◌, length, take, drop, None, Some, Bool, true, false}
 use Rattle.std.specs.List.{AllZip}
 use Rattle.std.specs.Str.Lines.{lines}
@@ -8,7 +8,7 @@ use Rattle.tool_traces.specs.declared.rows.BadLine.{BadLine}
 use Rattle.tool_traces.specs.Lines.{whole_lines}
 use Rattle.tool_traces.specs.Rows.{Trace, rows_behind, most_lines}
 
--- the rows of a text behind so many lines: those of its lines, and those of its whole lines
+-- the rows of a text after so many lines: those of its lines, and those of its whole lines
 abbrev pub rows_after : ℕ → List FixType → List ℕ → Trace
 rows_after count types text = rows_behind count types (lines text)
 
@@ -35,7 +35,7 @@ abbrev pub BeginsBadly : BadLine → (text : List ℕ) (types : List FixType) (c
 BeginsBadly bad text types count = (behind : List ℕ) →
     rows_after count types (text ++ behind) ≡ record { rows = []; bad = Some bad }
 
--- a line with its end stands from a place on, and is this row
+-- a line with its end lies from a place on, and is this row
 pub record IsNextRow (text : List ℕ) (types : List FixType) (count from after : ℕ)
     (row : List ℤ) : Type 0 where
   pub goes_on : from < after

@@ -15,13 +15,13 @@ checked_value field t None = Err (Form field)
 checked_value field t (Some v) =
     if int_le (least_of t) v && int_le v (greatest_of t) then Ok v else Err (Range field)
 
--- a value in front of those behind it; a fault of the value comes first
+-- a value in front of those after it; an error of the value comes first
 abbrev pub with_value : Result ℤ BadWhy → Result (List ℤ) BadWhy → Result (List ℤ) BadWhy
 with_value (Err why) values = Err why
 with_value (Ok v) (Err why) = Err why
 with_value (Ok v) (Ok values) = Ok (v ∷ values)
 
--- the values of the fields from this number on in their types, or the fault of the first bad one
+-- the values of the fields from this number on in their types, or the error of the first bad one
 abbrev pub values_from : ℕ → List FixType → List (List ℕ) → Result (List ℤ) BadWhy
 values_from field [] texts = Ok []
 values_from field (t ∷ types) [] = Ok []
@@ -41,16 +41,16 @@ pub record Trace : Type 0 where
   pub rows : List (List ℤ)
   pub bad : Option BadLine
 
--- a line's row in front of the rows of the lines behind it
+-- a line's row in front of the rows of the lines after it
 abbrev pub with_row : ℕ → Result (List ℤ) BadWhy → Trace → Trace
 with_row line (Ok row) trace = record { rows = row ∷ trace.rows; bad = trace.bad }
 with_row line (Err why) trace = record { rows = []; bad = Some (record { line = line; why = why }) }
 
--- how many lines a trace may have; one more is told with this number
+-- how many lines a trace may have; one more is reported with this number
 abbrev pub most_lines : ℕ
 most_lines = 4294967295
 
--- the rows of the lines behind so many others
+-- the rows of the lines after so many others
 abbrev pub rows_behind : ℕ → List FixType → List (List ℕ) → Trace
 rows_behind line types [] = record { rows = []; bad = None }
 rows_behind line types (text ∷ texts) =

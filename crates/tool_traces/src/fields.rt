@@ -14,9 +14,9 @@ const MOST_DIGITS: usize = 18;
 // More than any number of so many digits.
 const NUMBER_BOUND: u64 = 1_000_000_000_000_000_000;
 
-/// The first field of a line's bytes, and the bytes behind it. None where there is no field.
+/// The first field of a line's bytes, and the bytes after it. None where there is no field.
 ///
-/// Spaces and tabs part the fields, and may stand at both ends. A field has at least one byte.
+/// Spaces and tabs part the fields, and may be at both ends. A field has at least one byte.
 #[tactic(auto, using(crate::proofs::FieldLaws::no_fields, crate::proofs::FieldLaws::first_field, crate::proofs::FieldLaws::shorter_behind))]
 pub fn next_field(text: &[u8]) -> Option<(&[u8], &[u8])>
     ensures parts { MatchOption result (fields text.now ≡ [])

@@ -6,10 +6,10 @@ ghost use Rattle.tool_traces.specs.Lines.{next_line_of};
 /// The greatest length of a line without its end, in bytes.
 pub const LONGEST_LINE: usize = 4096;
 
-/// What stands next in a text that may not be whole yet.
+/// What is next in a text that may not be whole yet.
 #[derive(Clone, Copy, Debug, PartialEq, Eq, Drop)]
 pub enum Next {
-    /// A line from the place `start` to the place `end`; the text goes on at `after`, behind the line's end.
+    /// A line from the place `start` to the place `end`; the text goes on at `after`, after the line's end.
     Line {
         start: usize,
         end: usize,

@@ -12,7 +12,7 @@ use base_fixed_point::{FixType, greatest, least};
 pub enum BadWhy {
     /// It has more than 4,096 bytes without its end.
     Long,
-    /// As many lines as a trace may have stand before it.
+    /// As many lines as a trace may have are before it.
     Many,
     /// It has this number of fields, which isn't that of the inputs.
     Count(u32),
@@ -32,7 +32,7 @@ pub struct BadLine {
 }
 
 /// Reads the row that a line without its end writes: one field for each type, a stored integer of that type. Spaces
-/// and tabs part the fields, and may stand at both ends.
+/// and tabs part the fields, and may be at both ends.
 ///
 /// Fails where the line is no row, with the first cause in this order: its length, the number of its fields, and the
 /// leftmost bad field. `into` may hold anything then.

@@ -10,7 +10,7 @@ use base_fixed_point::FixType;
 /// How many lines a trace may have.
 const MOST_LINES: u32 = u32::MAX;
 
-/// Reads the row of the line that begins at the place `from` of the bytes, behind so many `lines`, into `into`, and says where
+/// Reads the row of the line that begins at the place `from` of the bytes, after so many `lines`, into `into`, and says where
 /// the trace goes on. None where that line's end isn't there.
 ///
 /// Fails where the line is no row, whatever may follow. `into` may hold anything then.
@@ -49,7 +49,7 @@ pub fn next_row(
     }
 }
 
-/// Reads the row of a last line, which has no end, behind so many `lines`, into `into`. False where it is empty, and so no line.
+/// Reads the row of a last line, which has no end, after so many `lines`, into `into`. False where it is empty, and so no line.
 ///
 /// Fails where the line is no row. `into` may hold anything then.
 pub fn last_row(

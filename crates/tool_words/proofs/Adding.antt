@@ -1,4 +1,4 @@
--- A command with a further argument, and the program with a further command: the next of those that stand in a list.
+-- A command with a further argument, and the program with a further command: the next of those that are in a list.
 use Rattle.std.proofs.Common.{◌≡◌, ◌∙◌, ◌||◌, ◌++◌, ◌∷◌, ◌+◌, ◌<◌, ℕ, length, List, [], map, take, get_or, false, sym, ap, ap₂}
 use Rattle.std.proofs.lemmas.List.{map-append, take_more}
 use Rattle.std.proofs.lemmas.Grind.{fold-append}

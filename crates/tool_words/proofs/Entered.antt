@@ -89,7 +89,7 @@ is_plain = refl
 abbrev pub names : Names
 names = names_of ready
 
--- the walk met a command of this name, with these words behind it
+-- the walk met a command of this name, with these words after it
 abbrev pub stopped_at : Text → List Text → Walk
 stopped_at name words = record { held = nothing_held; waiting = idle; position = 1; is_trailing = false; stopped = Some (name, words) }
 

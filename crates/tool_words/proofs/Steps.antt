@@ -1,4 +1,4 @@
--- A walk of `clap` over words with a first byte that is no `-`: each goes to the positional argument that stands next.
+-- A walk of `clap` over words with a first byte that is no `-`: each goes to the positional argument that is next.
 use Rattle.std.proofs.Common.{◌≡◌, ◌∙◌, ◌&&◌, ◌||◌, ◌==◌, ℕ, Bool, cond, true, false, suc, refl, sym, ap, ap₂, true≢false, List, [], ◌∷◌, None}
 use Rattle.std.specs.Prelude.{not, fold}
 use Rattle.std.specs.List.{list_all}
@@ -29,7 +29,7 @@ no_short : (word : Text) → is_word word ≡ true → short_of word ≡ None
 no_short [] is = absurd (true≢false (sym is))
 no_short (x ∷ xs) is = rw (no_minus x xs is) refl
 
--- a walk that stands before a positional
+-- a walk that is before a positional
 abbrev pub place : Held → ℕ → Walk
 place h position = record { held = h; waiting = idle; position = position; is_trailing = false; stopped = None }
 
@@ -61,7 +61,7 @@ module _ (s : Shape) where
       → turn_passes s [] (place h position) word ≡ next_passes h position
   turned_to h position word is = ap₂ (λ b m. b && step_passes s position m.0 m.1) (is_no_flag h word is) (met h position word is)
 
-  -- each of the words has its positional, and this is held behind them
+  -- each of the words has its positional, and this is held after them
   abbrev pub Goes : Held → ℕ → List Text → Held → Type 0
   Goes h position [] end = h ≡ end
   Goes h position (word ∷ words) end = (next : Held) × (is_word word ≡ true) × (to_next h position word ≡ place next (suc position))
@@ -82,7 +82,7 @@ module _ (s : Shape) where
       ap₂ (λ b w. b && walk_passes s [] w words) (turned_to h position word goes.1 ∙ goes.3) (walked_to h position word goes.1 ∙ goes.2)
       ∙ goes_pass goes.0 (suc position) words end goes.4
 
-  -- what is held behind the words passes
+  -- what is held after the words passes
   abbrev pub end_passes : Held → Bool
   end_passes h = settle_passes s.rules s.args_override_self h && (list_all default_passes s.rules && is_valid s (finished s.rules h) false)
 

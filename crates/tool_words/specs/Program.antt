@@ -1,4 +1,4 @@
--- The program as `clap` is told of it, and what its matches ask for.
+-- The program as `clap` knows it, and what its matches ask for.
 use Rattle.std.specs.Prelude.{◌≡◌, true, false, if◌then◌else◌, List, [], ◌∷◌, map, fold, Option, Some, None, bytes_eq, codes}
 use Rattle.clap.specs.Words.{App, Row, Rule, Shape, Text, first_of, new_app, new_rule, shape_of, with_subcommand}
 use Rattle.clap.specs.declared.builder.command.Command.{Command}

@@ -17,7 +17,7 @@ pub enum Command<'a> {
         code: &'a str,
         trace: &'a str,
     },
-    /// Puts the report on the systems of the file `model`.
+    /// Prints the report on the systems of the file `model`.
     Profile {
         model: &'a str,
     },

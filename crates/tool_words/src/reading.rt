@@ -12,7 +12,7 @@ use clap::error::ErrorKind;
 use clap::{ArgMatches, Error};
 use std::alloc::Global;
 
-// The matches of words that ask for something. A parse of them fails for want of memory alone.
+// The matches of words that ask for something. A parse of them fails only when memory runs out.
 fn parsed<'a>(alloc: Global, words: &'a [String]) -> Result<ArgMatches<'a>, Error>
     requires { is_some (asked_by (word_bytes words.now)) ≡ true }
     ensures values { IfOk result (λ m.
@@ -27,7 +27,7 @@ fn parsed<'a>(alloc: Global, words: &'a [String]) -> Result<ArgMatches<'a>, Erro
 /// words, each with a first byte that is no `-`, and the code to write another file than those that are named beside it.
 ///
 /// # Errors
-/// Words that ask for something are parsed, for which memory may be wanting.
+/// Words that ask for something are parsed, for which memory may run out.
 pub fn command<'a>(alloc: Global, words: &'a [String]) -> Result<Option<Command<'a>>, Memory>
     ensures values { IfOk result (λ command.
         option_map asked command ≡ asked_by (word_bytes words.entry.now)) }

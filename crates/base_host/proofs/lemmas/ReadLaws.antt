@@ -6,7 +6,7 @@ use Rattle.std.proofs.lemmas.List.{length-append, length-take-le}
 use Rattle.base_host.specs.Files.{File, OnFile, lookup}
 use Rattle.base_host.specs.Reading.{RoseBy, Source, source, HasRead, ReadsFront}
 
--- what is told is the same with nothing before it
+-- what is known is the same with nothing before it
 pub prepend_known-none : (k : Option (List ℕ)) → k ≡ prepend_known [] k
 prepend_known-none None = refl
 prepend_known-none (Some xs) = refl
@@ -39,7 +39,7 @@ read_both a b s s' s'' first then_more = record {
       omega (arith, sum, p, q);
 }
 
--- where the file is there and told, what holds of its bytes makes another thing hold of them
+-- where the file is there and known, what holds of its bytes makes another thing hold of them
 pub on_file_then : (files : Option (List File)) (rest : Option (List ℕ)) (name : List ℕ) (P Q : List ℕ → Type 0) →
     ((bytes : List ℕ) → P bytes → Q bytes) → OnFile files rest name P → OnFile files rest name Q
 on_file_then None rest name P Q f on = tt

@@ -15,7 +15,7 @@ use Rattle.c_grammar.proofs.Answering.{Answers, chain}
 use Rattle.c_grammar.proofs.Lists.{Stepped, many-reads}
 use Rattle.c_grammar.proofs.Definitions.{no_other, struct-reads, pure-reads, procedure-reads}
 
--- the elements of a file, behind which a struct stands, or a procedure, or the end
+-- the elements of a file, after which a struct comes, or a procedure, or the end
 abbrev Pures : List WrittenPure → List Token → List Token → Type 0
 Pures ps tokens rest = (all_spelling pure_spelling ps tokens ≡ Some rest) × (bytes_eq (first_text rest) (codes "struct") ≡ true)
 
@@ -117,12 +117,12 @@ module _ (last : ℕ) (limits : Limits) (exprs : limits.exprs ≡ expr_limit) (s
         };
       })
 
-  -- a program that is spelled, without a fault
+  -- a program that is spelled, without an error
   record IsFileOf (now : Option CFault) (tokens : List Token) (w : WrittenProgram) : Type 0 where
     spelled : Spells tokens w
     none : now ≡ None
 
-  -- the procedures of a file behind its pure functions and structs
+  -- the procedures of a file after its pure functions and structs
   procedures-read : (now : Option CFault) (tokens middle : List Token) (ps : List WrittenPure) (ds : List WrittenStruct)
       (later : List Token) → all_spelling pure_spelling ps tokens ≡ Some middle →
       some_spelling struct_spelling ds middle ≡ Some later → bytes_eq (first_text later) (codes "struct") ≡ false →

@@ -37,7 +37,7 @@ digit-true n h =
     and_both (nat_le 48 (48 + n)) (nat_le (48 + n) 57) (le-leb 48 (48 + n) (omega arith))
     (le-leb (48 + n) 57 (omega (arith, h)))
 
--- no digit 0 stands first
+-- no digit 0 is first
 pub no_zero : List ℕ → Bool
 no_zero [] = false
 no_zero (d ∷ ds) = not (d == 48)

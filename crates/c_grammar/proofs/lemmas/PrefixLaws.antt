@@ -14,7 +14,7 @@ use Rattle.c_grammar.specs.Parsing.{tail_of}
 use Rattle.c_grammar.specs.declared.openers.Tail.TheVariants.{Dot as dot_tail, Bracket as bracket_tail, Nothing as no_tail}
 use Rattle.c_syntax.specs.Limits.{expr_limit}
 
--- a token with this text, and what is behind it
+-- a token with this text, and what is after it
 pub record Front (text : List ℕ) (tokens rest : List Token) : Type 0 where
   pub token : Token
   pub list : tokens ≡ token ∷ rest

@@ -1,4 +1,4 @@
--- What stands at a position of a list, through maps.
+-- What is at a position of a list, through maps.
 use Rattle.std.proofs.Common.{◌≡◌, sym, ap, ℕ, zero, suc, ◌<◌, List, [], ◌∷◌, length, map, get_or, arith}
 
 -- what a function gives of the element at a position

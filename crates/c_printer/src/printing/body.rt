@@ -226,7 +226,7 @@ fn put_target(out: &mut Vec<u8>, scope: &Scope, target: Target) -> Result<(), Al
     }
 }
 
-// The arguments of a call of a procedure with these parameters, each behind `, ` and with its cast.
+// The arguments of a call of a procedure with these parameters, each after `, ` and with its cast.
 fn put_arguments(
     alloc: Global,
     out: &mut Vec<u8>,

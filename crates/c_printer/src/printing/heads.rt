@@ -133,7 +133,7 @@ fn put_declaration(
     put(out, b";")
 }
 
-// The length of an array, behind the field's name.
+// The length of an array, after the field's name.
 fn put_length(alloc: Global, out: &mut Vec<u8>, kind: FieldKind) -> Result<(), AllocError>
     ensures { OnOk result (out.new.items ≡ out.old.items ++ length_bytes kind) }
 {

@@ -141,7 +141,7 @@ module _ (last : ℕ) (limits : Limits) where
         params-parsed xs most (count + 1) q.0 mid rest q.2 close (omega (arith, few)) (omega (arith, enough)),
       ) refl
 
-  -- a pure function behind its `static`
+  -- a pure function after its `static`
   pure-parsed : (line return_line : ℕ) (name : List ℕ) (body : WrittenExpr) (params : List WrittenPureParam) (t : Token)
       (tokens rest : List Token) → t.line ≡ line →
       (word (codes "int64_t") ⨾ name_word name ⨾ in_parens (pure_params_spelling params)
@@ -221,7 +221,7 @@ module _ (last : ℕ) (limits : Limits) where
         pures-parsed xs most (count + 1) p.0 mid p.2 then keeps.1 (omega (arith, few)) (omega (arith, enough)),
       ) refl
 
-  -- behind the name of a field: no length, or that of an array
+  -- after the name of a field: no length, or that of an array
   no_length-parsed : (type : CType) (tokens rest : List Token) → word (codes ";") tokens ≡ Some rest →
       parse_length last limits type tokens (bytes_eq (first_text tokens) (codes "[")) ≡ Ok (number_kind type, tokens)
   no_length-parsed type tokens rest semi = rw (ap (λ x. bytes_eq x (codes "[")) (word-text (codes ";") tokens rest semi)) refl
@@ -306,7 +306,7 @@ module _ (last : ℕ) (limits : Limits) where
         fields-parsed xs most (count + 1) p.0 mid rest p.2 close (omega (arith, enough)),
       ) refl
 
-  -- a struct behind its `struct`
+  -- a struct after its `struct`
   struct-parsed : (line : ℕ) (name : List ℕ) (fields : List WrittenField) (t : Token) (tokens rest : List Token) →
       t.line ≡ line → (name_word name ⨾ in_braces (some_spelling field_spelling fields) ⨾ word (codes ";")) tokens
       ≡ Some rest → parse_struct last limits t tokens ≡ Ok (record { line = line; name = name; fields = fields }, rest)
@@ -362,7 +362,7 @@ module _ (last : ℕ) (limits : Limits) where
         structs-parsed xs most (count + 1) p.0 mid p.2 then (omega (arith, enough)),
       ) refl
 
-  -- a procedure behind its `void`
+  -- a procedure after its `void`
   behind-parsed : (x : WrittenProcedure) (line : ℕ) (tokens rest : List Token) → line ≡ x.line →
       (name_word x.name ⨾ in_parens (word (codes "struct") ⨾ name_word x.of ⨾ word (codes "*") ⨾ word (codes "s")
       ⨾ more_params_spelling x.params) ⨾ in_braces (stmts_spelling x.body)) tokens ≡ Some rest →

@@ -1,4 +1,4 @@
--- Each text has one reading or one fault, and no text has both.
+-- Each text has one reading or one error, and no text has both.
 use Rattle.std.proofs.Common.{◌≡◌, refl, sym, ◌∙◌, ap, ℕ, ◌⊎◌, inl, inr, List, Option, Some, None, Result, Ok, Err, Bool, true, false, subst}
 use Rattle.c_syntax.specs.declared.fault.CFault.{CFault}
 use Rattle.c_syntax.specs.declared.fault.CKind.TheVariants.{Syntax}
@@ -16,15 +16,15 @@ use Rattle.c_reading_laws.proofs.Limits.{program-limits}
 use Rattle.c_reading_laws.proofs.LawfulReadings.{text-lawful}
 use Rattle.c_reading_laws.proofs.lemmas.ParsedFile.{one_written}
 
--- the tokens of a text, and its first fault among them
+-- the tokens of a text, and its first error among them
 abbrev first_of : List ℕ → Option CFault
 first_of bytes = token_fault file_needs (last_line bytes) (tokens_of bytes)
 
--- a text without a fault of tokens is a file within the limits
+-- a text without an error of tokens is a file within the limits
 pub file-there : (bytes : List ℕ) → first_of bytes ≡ None → IsFile (tokens_of bytes)
 file-there bytes e = (faults_agree (tokens_of bytes) (last_line bytes) None).0 e
 
--- a program that a text without such a fault spells, and what it stands for
+-- a program that a text without such an error spells, and what it stands for
 pub text-read : (bytes : List ℕ) (written : WrittenProgram) (p : ProgramTree) → has_header bytes ≡ true →
     Spells (tokens_of bytes) written → first_of bytes ≡ None → resolve_program (last_line bytes) written ≡ Ok p →
     CText bytes p
@@ -106,7 +106,7 @@ refusal-is bytes fault (inr (inr b)) =
 pub refusals_agree : RefusalsAgree
 refusals_agree bytes fault = (λ f. refusal-said bytes fault (has_header bytes) refl f, λ r. refusal-is bytes fault r)
 
--- what is read has no fault among its tokens
+-- what is read has no error among its tokens
 pub read-no_fault : (bytes : List ℕ) (p : ProgramTree) → CText bytes p → first_of bytes ≡ None
 read-no_fault bytes p text =
     (faults_agree (tokens_of bytes) (last_line bytes) None).1

@@ -129,7 +129,7 @@ module _ (place : ℕ → ℕ) (s other : Scope) where
       then_run-refines place (run_stmt s x cells n) (run_stmt other y cells m) (run_stmts s xs) (run_stmts other ys)
       (first cells n m fewer) rest
 
-  -- a statement for which several stand
+  -- a statement that several stand for
   pub more-refine-several : (x : StmtTree) (ys xs zs : StmtTrees) →
       ((cells : Cells) (n m : ℕ) → m ≤ n → Refines place (run_stmt s x cells n) (run_stmts other ys cells m)) →
       RefinesStmts place s other xs zs → RefinesStmts place s other (more_stmts x xs) (stmts_append ys zs)
@@ -138,7 +138,7 @@ module _ (place : ℕ → ℕ) (s other : Scope) where
       (then_run-refines place (run_stmt s x cells n) (run_stmts other ys cells m) (run_stmts s xs) (run_stmts other zs)
       (first cells n m fewer) rest)
 
--- ---- A call for which a body stands
+-- ---- A call that a body stands for
 
 -- A call on the same instance is refined by what refines the procedure, from the arguments to which
 -- the call's come and no lower count of steps.

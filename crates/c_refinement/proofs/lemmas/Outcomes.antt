@@ -22,7 +22,7 @@ under-placed : (place : ℕ → ℕ) (f : ℕ) (log : List LoggedCall) →
 under-placed place f [] = refl
 under-placed place f (c ∷ log) = ap (λ rest. placed_call place (call_under f c) ∷ rest) (under-placed place f log)
 
--- where each procedure stands in place, calls are as they are
+-- where each procedure is in place, calls are as they are
 pub same-calls : (log : List LoggedCall) → map (placed_call in_place) log ≡ log
 same-calls [] = refl
 same-calls (c ∷ log) = ap (λ rest. c ∷ rest) (same-calls log)

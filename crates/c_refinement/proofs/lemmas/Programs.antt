@@ -21,7 +21,7 @@ use Rattle.c_refinement.proofs.lemmas.Code.{same-refine, stmts-onward}
 
 -- ---- What holds at each place of a list
 
--- it holds of one more behind the others
+-- it holds of one more after the others
 pub each-appended : {A : Type 0} (P : A → Type 0) (none x : A) (xs : List A) → ((k : ℕ) → P (slice_index_or xs k none)) → P x →
     (k : ℕ) → P (slice_index_or (xs ++ x ∷ []) k none)
 each-appended P none x [] h one zero = one

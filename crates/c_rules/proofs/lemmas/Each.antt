@@ -9,7 +9,7 @@ bind_ok r go x e = ap (λ s. s >>= go) e
 pub bind_err : {A B E : Type 0} (r : Result A E) (go : A → Result B E) (fault : E) → r ≡ Err fault → (r >>= go) ≡ Err fault
 bind_err r go fault e = ap (λ s. s >>= go) e
 
--- the results of all, or the first fault
+-- the results of all, or the first error
 abbrev pub each : {A B E : Type 0} → (A → Result B E) → List A → Result (List B) E
 each f [] = Ok []
 each f (x ∷ xs) = f x >>= λ y. each f xs >>= λ ys. Ok (y ∷ ys)
@@ -45,7 +45,7 @@ each-push {B = B} f view xs i x done y within here before e =
     (each-step f xs i x (map view done) (view y) within here before e
     ∙ ap (λ (ws : List B). Ok ws) (map_push view done y))
 
--- one has a fault, and none before it
+-- one has an error, and none before it
 pub each-fault : {A B E : Type 0} (f : A → Result B E) (xs : List A) (i : ℕ) (x : A) (ys : List B) (fault : E) →
     i < length xs → x ≡ get_or xs i x → each f (take i xs) ≡ Ok ys → f x ≡ Err fault → each f xs ≡ Err fault
 each-fault f [] i x ys fault within here before e = absurd (omega (arith, within))

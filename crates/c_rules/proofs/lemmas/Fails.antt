@@ -1,4 +1,4 @@
--- What a fault in one of many says of all.
+-- What an error in one of many says of all.
 use Rattle.std.proofs.Common.{◌≡◌, sym, ◌∙◌, subst, ℕ, ◌<◌, List, take, length, get_or, Result, Ok, Err}
 use Rattle.std.specs.Result.{IsErrAnd}
 use Rattle.c_syntax.specs.declared.fault.CFault.{CFault}
@@ -8,7 +8,7 @@ use Rattle.c_grammar.specs.declared.fault.ReadCFault.TheVariants.{Refused, Memor
 use Rattle.c_rules.specs.Gives.{Gives, Fails}
 use Rattle.c_rules.proofs.lemmas.Each.{bind_err, each, each-fault}
 
--- a fault that is passed on
+-- an error that is passed on
 pub gives-same : {A B : Type 0} (view : A → B) (r : Result A ReadCFault) (e : ReadCFault) (ruled : Result B CFault) →
     IsErrAnd r (λ given. given ≡ e) → Fails e ruled → Gives view r ruled
 gives-same view (Ok x) e ruled h fails = absurd h
@@ -21,7 +21,7 @@ each-fails f go whole xs i x ys (Refused fault) is within here before h =
     is ∙ bind_err (each f xs) go fault (each-fault f xs i x ys fault within here before h)
 each-fails f go whole xs i x ys Memory is within here before h = tt
 
--- a fault in the first step is that of all
+-- an error in the first step is that of all
 pub fails-bind : {A B : Type 0} (e : ReadCFault) (r : Result A CFault) (go : A → Result B CFault)
     (whole : Result B CFault) → whole ≡ (r >>= go) → Fails e r → Fails e whole
 fails-bind (Refused fault) r go whole is h = is ∙ bind_err r go fault h

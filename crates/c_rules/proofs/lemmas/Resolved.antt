@@ -47,7 +47,7 @@ named-ok None x e = cc
 pub some_same : {A : Type 0} (x y : A) → Some x ≡ Some y → x ≡ y
 some_same x y e = ap (λ o. unwrap_or o x) e
 
--- what stands at a position that was found
+-- what is at a position that was found
 record At {A : Type 0} (test : A → Bool) (xs : List A) (i k : ℕ) : Type 0 where
   item : A
   offset : ℕ
@@ -163,7 +163,7 @@ kind-same j k e = ap by e
     by (Array type count) = j
     by (Struct n) = n
 
--- what an index stands behind is an array
+-- what an index comes after is an array
 pub array-kind : (kind : FieldKind) (type : CType) → as_array kind ≡ Ok type → (count : ℕ) × (kind ≡ Array type count)
 array-kind (Number t) type e = cc
 array-kind (Array t count) type e = (count, ap (λ u. Array u count) (ok-same t type e))
@@ -182,7 +182,7 @@ array-lawful names name k e =
     let c : _ = bind-parts (as_array b.0.1) (λ type. Ok b.0.0) k b.2 in
     subst (IsArrayAt names.fields) (ok-same b.0.0 k c.2) (array-at names.fields name b.0 c.0 b.1 c.1)
 
--- a store behind an index goes to an array
+-- a store after an index goes to an array
 pub item_store-lawful : (names : Names) (name : List ℕ) (cast : CType) (k : ℕ) →
     resolve_item_store names name cast ≡ Ok k → IsArrayAt names.fields k
 item_store-lawful names name cast k e =

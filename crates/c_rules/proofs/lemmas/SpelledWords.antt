@@ -23,7 +23,7 @@ line-front line a (t ∷ tokens) rest h = by (t.line == line) refl h
     by true e k = record { token = t; later = tokens; list = refl; is = eqb-true t.line line e; inner = k }
     by false e k = cc
 
--- what a spelling of one word leaves behind a token
+-- what a spelling of one word leaves after a token
 pub word-rest : (text : List ℕ) (t : Token) (tokens rest : List Token) → word text (t ∷ tokens) ≡ Some rest →
     (t.text ≡ text) × (tokens ≡ rest)
 word-rest text t tokens rest h = by (bytes_eq t.text text) refl h

@@ -1,4 +1,4 @@
--- What stands in fields, and in an array, of which one is set.
+-- What is in fields, and in an array, of which one is set.
 use Rattle.std.proofs.Common.{◌≡◌, ◌≢◌, refl, sym, ap, ℕ, zero, suc, ◌<◌, List, [], ◌∷◌, length, ℤ, arith}
 use Rattle.c_semantics.specs.Cells.{Cell, Cells, no_cells, more_cells, cell_at, set_cell, set_item}
 use Rattle.base_core.specs.Numbers.{int_at}

@@ -1,4 +1,4 @@
--- What a program does doesn't depend on the lines of its statements, but for the line where it is stuck.
+-- What a program does doesn't depend on the lines of its statements, except for the line where it is stuck.
 use Rattle.std.proofs.Common.{◌≡◌, refl, sym, ◌∙◌, ap, ℕ, zero, suc, ◌+◌, List, [], ◌∷◌, ◌++◌, length, map, Bool, true, false, ◌&&◌, if◌then◌else◌, nat_lt}
 use Rattle.std.specs.Prelude.{ℤ, pos, Some, unwrap_or, codes, bytes_eq, neg_ℤ, int_le, int_lt, unsigned_abs, ◌+ℤ◌, ◌-ℤ◌, ◌*ℤ◌, int_div, int_rem, not}
 use Rattle.std.specs.Ordering.{int_eq}
@@ -43,7 +43,7 @@ function_at-aside [] k = refl
 function_at-aside (f ∷ fs) zero = refl
 function_at-aside (f ∷ fs) (suc k) = function_at-aside fs k
 
--- a next step of one answer behind another
+-- a next step of one answer after another
 and_then-aside : {A B : Type 0} (o p : Answer A) (go go' : A → ℕ → Answer B) → o ≡ aside p →
     ((r : A) (n : ℕ) → go r n ≡ aside (go' r n)) → and_then o go ≡ aside (and_then p go')
 and_then-aside o (gives r n) go go' is after = ap (λ x. and_then x go) is ∙ after r n

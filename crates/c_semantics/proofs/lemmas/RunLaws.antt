@@ -1,4 +1,4 @@
--- What statements do: one list behind another, a store, a store in an item of an array, and a test.
+-- What statements do: one list after another, a store, a store in an item of an array, and a test.
 use Rattle.std.proofs.Common.{◌≡◌, ◌≢◌, refl, ap, ◌∙◌, ℕ, ◌+◌, ◌<◌, ◌≤◌, Bool, true, false, ◌&&◌, if◌then◌else◌, List, length, ℤ, pos, int_le, int_lt, arith, lt-ltb, le-ltb}
 use Rattle.std.specs.Prelude.{unsigned_abs}
 use Rattle.std.proofs.lemmas.Bool.Decides.{nat_tests}
@@ -14,7 +14,7 @@ use Rattle.c_semantics.proofs.lemmas.Runs.{run_stmts-append}
 
 -- ---- Sequences
 
--- nothing behind an execution leaves it as it is
+-- nothing after an execution leaves it as it is
 then_nothing : (scope : Scope) (o : Outcome) → then_run o (run_stmts scope no_stmts) ≡ o
 then_nothing scope (done a) = λ i. done
     (record { cells = a.cells; steps = a.steps; log = append-nil a.log i; stores = append-nil a.stores i })

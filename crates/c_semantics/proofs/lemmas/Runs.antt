@@ -1,4 +1,4 @@
--- Laws of runs: lists of statements one behind the other, and what stays as it was.
+-- Laws of runs: lists of statements one after the other, and what stays as it was.
 use Rattle.std.proofs.Common.{◌≡◌, refl, sym, ◌∙◌, ap, ℕ, zero, suc, ◌+◌, ◌<◌, ◌≢◌, List, [], ◌∷◌, ◌++◌, length, arith, slice_get, take, Some, subst, unwrap_or, add-zero}
 use Rattle.std.proofs.Math.Path.{fun_ext}
 use Rattle.std.proofs.lemmas.List.{append_assoc, get_or_append_left, length-append}
@@ -23,19 +23,19 @@ behind-behind l m s t (done a) =
     same _ _ _ _ (sym (append_assoc l m a.log)) (sym (append_assoc s t a.stores))
 behind-behind l m s t (stuck at cells) = refl
 
--- what follows an outcome with earlier events behind it
+-- what follows an outcome with earlier events after it
 pub then_run-behind : (l : List LoggedCall) (s : List StoredField) (o : Outcome) (go : Cells → ℕ → Outcome) →
     then_run (behind l s o) go ≡ behind l s (then_run o go)
 then_run-behind l s (done a) go = sym (behind-behind l a.log s a.stores (go a.cells a.steps))
 then_run-behind l s (stuck at cells) go = refl
 
--- three runs one behind the other
+-- three runs one after the other
 pub then_run-then_run : (o : Outcome) (f g : Cells → ℕ → Outcome) →
     then_run (then_run o f) g ≡ then_run o (λ cells steps. then_run (f cells steps) g)
 then_run-then_run (done a) f g = then_run-behind a.log a.stores (f a.cells a.steps) g
 then_run-then_run (stuck at cells) f g = refl
 
--- the statements of two lists, one behind the other
+-- the statements of two lists, one after the other
 pub run_stmts-append : (s : Scope) (a b : StmtTrees) (cells : Cells) (steps : ℕ) →
     run_stmts s (stmts_append a b) cells steps ≡ then_run (run_stmts s a cells steps) (run_stmts s b)
 run_stmts-append s no_stmts b cells steps = sym (behind-nothing (run_stmts s b cells steps))

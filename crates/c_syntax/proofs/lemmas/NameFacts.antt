@@ -5,7 +5,7 @@ use Rattle.c_syntax.specs.Outputs.{has_name}
 use Rattle.c_syntax.specs.Lawful.{AreDistinct, AreApart}
 use Rattle.c_syntax.proofs.lemmas.NamePlaces.{bytes_eq-sym, or-left, or-right}
 
--- a name in two lists one behind the other
+-- a name in two lists one after the other
 pub has_name-append : (xs ys : List (List ℕ)) (n : List ℕ) → has_name (xs ++ ys) n ≡ (has_name xs n || has_name ys n)
 has_name-append [] ys n = refl
 has_name-append (x ∷ xs) ys n = by (bytes_eq n x) (has_name-append xs ys n)

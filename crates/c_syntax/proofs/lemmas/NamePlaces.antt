@@ -1,4 +1,4 @@
--- Where names stand in lists of different ones.
+-- Where names are in lists of different ones.
 use Rattle.std.proofs.Common.{◌≡◌, refl, sym, ◌∙◌, ap, ℕ, zero, suc, ◌+◌, ◌<◌, List, [], ◌∷◌, ◌++◌, length, map, get_or, Bool, true, false, ◌||◌, Some, unwrap_or, slice_get, bytes_eq, if◌then◌else◌, arith}
 use Rattle.std.specs.List.{position_from}
 use Rattle.std.proofs.lemmas.Bool.Decides.{same_from_decides}

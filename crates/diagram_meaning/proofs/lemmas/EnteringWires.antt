@@ -1,4 +1,4 @@
--- One wire enters each Inport of a subsystem, and the wires stand in the order of the Inports.
+-- One wire enters each Inport of a subsystem, and the wires are in the order of the Inports.
 use Rattle.std.specs.Prelude.{◌≡◌, ℕ, zero, suc, ◌+◌, ◌<◌, true, List, [], ◌∷◌, ◌++◌, flat_map, length, slice_get, Option, Some, refl}
 use Rattle.std.proofs.Common.{sym, ap, subst, ◌∙◌, arith, true≢false}
 use Rattle.std.proofs.lemmas.List.{length-append}
@@ -33,7 +33,7 @@ module _ (f : ℕ → List ℕ) where
       let both : length (flat_map f (i ∷ is)) ≡ length (f i) + length (flat_map f is) = length-append (f i) (flat_map f is) in
       omega (arith, here, rest, both)
 
-  -- what stands at a place is that of the piece there
+  -- what is at a place is that of the piece there
   piece-at : (is : List ℕ) → AreSingle is → (k i : ℕ) → slice_get is k ≡ Some i →
       (c : ℕ) × (f i ≡ c ∷ []) × (slice_get (flat_map f is) k ≡ Some c)
   piece-at [] one k i at = absurd (none-some i at)
@@ -86,7 +86,7 @@ module _ (rows : List Row) (wired : IsWired rows) (e : ℕ) where
     pub as-many : length (entering_wires rows (Some e)) ≡ length inports
     as-many = length-pieces wires_of inports are-single
 
-    -- the wire of an Inport stands at its place
+    -- the wire of an Inport is at its place
     pub entering-at : (k i : ℕ) → slice_get inports k ≡ Some i →
         (c : ℕ) × (wires_of i ≡ c ∷ []) × (slice_get (entering_wires rows (Some e)) k ≡ Some c)
     entering-at k i at = piece-at wires_of inports are-single k i at

@@ -1,4 +1,4 @@
--- The rows of a system that pass a test on their kind have the ports from 1 to their number, each once: by port they stand
+-- The rows of a system that pass a test on their kind have the ports from 1 to their number, each once: by port they are
 -- each at its own.
 use Rattle.std.specs.Prelude.{◌≡◌, ◌⊎◌, ℕ, zero, suc, ◌+◌, ◌-◌, ◌<◌, ◌≤◌, Bool, true, false, ◌==◌, cond, eqb, List, [], ◌∷◌, map, filter, filter_map, find, length, count_by, slice_get, Contains, Option, Some, None, ⊤, refl}
 use Rattle.std.specs.List.{cons_option, range_with_len, list_any, IsDistinct, AllByRecursion}
@@ -96,7 +96,7 @@ of-range a (suc n) b h = elim (in-cases a b (range_with_len (a + 1) n) h) [
   | inr more ↦ let r = of-range (a + 1) n b more in (let low = r.0 in omega arith, let high = r.1 in omega arith)
 ]
 
--- no number stands twice
+-- no number occurs twice
 abbrev pub Apart : List ℕ → Type 0
 Apart [] = ⊤
 Apart (x ∷ xs) = ((y : ℕ) → Contains xs y → x ≡ y → ⊥) × Apart xs
@@ -140,7 +140,7 @@ member q (x ∷ xs) h = elim (or_cases (eqb q x) (list_any (eqb q) xs) h) [
 at-most : (xs : List ℕ) (n : ℕ) → Apart xs → ((q : ℕ) → Contains xs q → q < n) → length xs ≤ n
 at-most xs n h below = length-le_from_distinct_below xs n (distinct xs h) (λ q m. below q (member q xs m))
 
--- where each number is found, what is found stands in order
+-- where each number is found, what is found is in order
 place-found : (f : ℕ → Option ℕ) (a n i : ℕ) → ((k : ℕ) → a ≤ k → k < a + n → (b : ℕ) × (f k ≡ Some b)) → i < n →
     slice_get (filter_map f (range_with_len a n)) i ≡ f (a + i)
 place-found f a zero i found h = absurd (omega arith)
@@ -199,7 +199,7 @@ module _ (port : ℕ → ℕ) (own : List ℕ) (apart : Apart own)
   abbrev numbered : List ℕ
   numbered = filter_map (λ k. find (λ b. port b == k) own) (range_with_len 1 (length own))
 
-  -- each row stands at its port
+  -- each row is at its port
   at-port : (b : ℕ) → Contains own b → slice_get numbered (port b - 1) ≡ Some b
   at-port b m =
       let r = range b m in
@@ -271,7 +271,7 @@ module _ (rows : List Row) (test : Kind → Bool) (o : Option ℕ) (ports : HasP
       let j = from c k in
       ports.one_each b c i.in_table j.in_table i.is_own j.is_own i.passing j.passing same
 
-  -- each of them stands at its port
+  -- each of them is at its port
   pub at-own-port : (b : ℕ) → IsPorted b → slice_get (by_port rows o test) (port b - 1) ≡ Some b
   at-own-port b is = at-port port own own-apart range one b (into b is)
 
@@ -286,7 +286,7 @@ module _ (rows : List Row) (test : Kind → Bool) (o : Option ℕ) (ports : HasP
   pub length-by_port : length (by_port rows o test) ≡ length own
   length-by_port = length-numbered port own own-apart range one
 
-  -- what stands by port is such a row, at its port
+  -- what is by port is such a row, at its port
   pub ported-at : (k : ℕ) → k < length (by_port rows o test) →
       (b : ℕ) × (slice_get (by_port rows o test) k ≡ Some b) × IsPorted b × (port b ≡ suc k)
   ported-at k below =

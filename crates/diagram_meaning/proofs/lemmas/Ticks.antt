@@ -5,7 +5,7 @@ use Rattle.diagram_activity.specs.declared.TrigMem.{TrigMem}
 use Rattle.diagram_meaning.specs.Diagram.{Diagram}
 use Rattle.diagram_meaning.specs.Run.{IsTick, RunFrom}
 
--- the values before tick t, where these stand before the first
+-- the values before tick t, where these are before the first
 abbrev pub before_tick : List ℤ → List (List ℤ) → ℕ → List ℤ
 before_tick first vs zero = first
 before_tick first vs (suc t) = slice_index_or vs t []

@@ -24,7 +24,7 @@ use Rattle.diagram_meaning.proofs.lemmas.ByRow.{by_row-at, length-by_row}
 use Rattle.diagram_meaning.proofs.lemmas.TypeFollowed.{type_followed}
 use Rattle.diagram_meaning.proofs.lemmas.Tests.{all_below, below-at}
 
--- n copies, and what stands at a place
+-- n copies, and what is at a place
 replicate-at : {X : Type 0} (n : ℕ) (x : X) (b : ℕ) → slice_index_or (replicate n x) b x ≡ x
 replicate-at zero x b = refl
 replicate-at (suc n) x zero = refl

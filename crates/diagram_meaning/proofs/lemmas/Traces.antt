@@ -41,7 +41,7 @@ zip-from P a (suc n) (v ∷ x) long each =
     )
 
 module _ (d : Diagram) (s : Option ℕ) (ports : HasPorts d.rows is_inport s) where
-  -- an Inport of the system stands at its port
+  -- an Inport of the system is at its port
   input-ported : (port b : ℕ) → IsInputRow d.rows s port b → IsPorted d.rows is_inport s ports b
   input-ported port b is = record {
     in_table = is.in_table;

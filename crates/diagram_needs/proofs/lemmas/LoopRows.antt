@@ -39,7 +39,7 @@ module _ (needs : ℕ → List ℕ) where
   none-on_loop none [] w = w
   none-on_loop none (a ∷ path) w = none a (path, w)
 
-  -- a least path from the least row on a loop back to it makes the loop that is told
+  -- a least path from the least row on a loop back to it makes the loop that is reported
   pub least-loop : (a : ℕ) (steps path : List ℕ) → IsLeastOf (IsOnLoop needs) (Some a) → AreLevelsTo needs a steps →
       IsLeastPath needs a steps a path → IsLeastLoop needs (a ∷ path)
   least-loop a steps path row levels way = record {

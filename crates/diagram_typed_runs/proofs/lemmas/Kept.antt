@@ -34,7 +34,7 @@ use Rattle.diagram_typed_runs.proofs.lemmas.Evaluable.{op-is, computed-fits, tak
 pub zero-fits : (d : Diagram) (b : ℕ) → FitsRow d b (pos 0)
 zero-fits d b = record { in_type = zero-in (type_at d.types b); ground = λ e. refl }
 
--- what holds of what stands past the end and of what each row is given holds along the list
+-- what holds of what is past the end and of what each row is given holds along the list
 along : {X : Type 0} (d : Diagram) (f : ℕ → X) (nothing : X) (P : ℕ → X → Type 0) → ((b : ℕ) → P b nothing) →
     ((b : ℕ) → b < length d.rows → P b (f b)) →
     (b : ℕ) → P b (slice_index_or (by_row d.rows f) b nothing)
@@ -53,7 +53,7 @@ are-in d f each = record {
   each = along d f [] (λ b. AllByRecursion (InType (type_at d.types b))) (λ b. tt) each;
 }
 
--- what holds of nothing, and of what stands where a test passes
+-- what holds of nothing, and of what is where a test passes
 guarded : {X : Type 0} (P : X → Type 0) (test : Bool) (y nothing : X) → P nothing → (test ≡ true → P y) → P (if test then y else nothing)
 guarded P true y nothing none some = some refl
 guarded P false y nothing none some = none

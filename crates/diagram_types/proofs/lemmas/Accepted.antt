@@ -18,7 +18,7 @@ use Rattle.diagram_types.specs.Inferred.{AreTypes}
 use Rattle.base_refusals.proofs.lemmas.FirstRefusals.{least-each}
 use Rattle.diagram_types.proofs.lemmas.PassLemmas.{none-found}
 
--- a row without a fault has a type
+-- a row without an error has a type
 typed : (rows : List Row) (b : ℕ) (o : Option FixType) (unlike : Bool) →
     least_line (if is_some o then (if unlike then NoType (line_at rows b) Unlike ∷ [] else [])
     else NoType (line_at rows b) Missing ∷ []) ≡ None →

@@ -77,7 +77,7 @@ module _ (op : ℕ → ℕ → ℕ) (sums : IsSum op) where
         Weighs : StmtTrees → Type 0
         Weighs xs = weights xs ≡ op (weight (branch line test a b)) (weights (more_stmts (branch later other c d) rest))
 
-        -- of both as they stand
+        -- of both as they are
         before : op (weight (branch line test a b)) (weights (more_stmts (branch later other c d) rest))
             ≡ op (op (weights a) (weights b)) (op (op (weights c) (weights d)) (weights rest))
         before =

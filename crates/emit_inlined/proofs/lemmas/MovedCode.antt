@@ -13,7 +13,7 @@ use Rattle.c_semantics.specs.Machine.{arguments}
 use Rattle.base_core.specs.Numbers.{int_at}
 use Rattle.emit_inlined.specs.Inlined.{moved_expr, moved_exprs, moved_cond}
 
--- these arguments are passed to a body, and those to the code in which it stands, which has each at its parameter
+-- these arguments are passed to a body, and those to the code in which it is, which has each at its parameter
 module _ (param place : ℕ → ℕ) (reach : Reach) (passed around : List ℤ)
     (same : (k : ℕ) → k < reach.params → int_at around (param k) ≡ int_at passed k) (functions : List Function) where
   -- ---- Expressions

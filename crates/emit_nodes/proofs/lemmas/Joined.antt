@@ -1,4 +1,4 @@
--- Pieces of code one behind the other.
+-- Pieces of code one after the other.
 use Rattle.std.proofs.Common.{◌≡◌, refl, sym, ap, ap₂, ◌∙◌, ℕ, ◌+◌, ◌<◌, List, [], ◌∷◌, ◌++◌, map, take, length, get_or}
 use Rattle.std.proofs.lemmas.List.{map-append, map_more}
 use Rattle.c_syntax.specs.declared.code.Stmt.{Stmt}

@@ -121,7 +121,7 @@ casts Wrap t q steps small h =
     wraps q (least_of t) t.bits steps (some_bits t.signed t.bits t.frac t.in_profile) t.in_profile.1
     (low_by t.signed t.bits t.frac t.in_profile) (high_by t.signed t.bits t.frac t.in_profile) small h
 
--- a number with more bits after the point than the type stands as it is
+-- a number with more bits after the point than the type stays as it is
 unscaled : (v : ℤ) (f g : ℕ) → 1 ≤ f - g → over_units v f g ≡ v
 unscaled v f g h = let none : g - f ≡ 0 = omega (arith, h) in ap (λ k. v *ℤ pos (2 ^ k)) none ∙ omega (arith, ints)
 

@@ -1,4 +1,4 @@
--- Code that calls pure functions by other positions does the same where the functions that it calls stand there.
+-- Code that calls pure functions by other positions does the same where the functions that it calls are there.
 use Rattle.std.specs.Prelude.{◌≡◌, ℕ, List, [], ◌∷◌, ◌++◌, map, length, if◌then◌else◌, ℤ, neg_ℤ, not}
 use Rattle.std.specs.List.{AllByRecursion}
 use Rattle.std.proofs.Common.{true, false, refl, ◌∙◌}
@@ -15,7 +15,7 @@ use Rattle.emit_pruned.specs.Pruned.{renumbered_expr, renumbered_exprs, renumber
 use Rattle.emit_pruned.proofs.lemmas.Numbers.{all-left, all-right}
 
 module _ (place : ℕ → ℕ) (functions others : List Function) where
-  -- the function at a position stands among the others at its place
+  -- the function at a position is among the others at its place
   abbrev pub Agree : ℕ → Type 0
   Agree k = function_at others (place k) ≡ function_at functions k
 

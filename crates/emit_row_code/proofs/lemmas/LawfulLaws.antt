@@ -36,7 +36,7 @@ use Rattle.emit_row_code.proofs.lemmas.Conversions.{least_small, greatest_small}
 
 -- ---- Functions
 
--- a function with so many parameters stands at a position
+-- a function with so many parameters is at a position
 abbrev IsThere : List PureTree → ℕ → ℕ → Type 0
 IsThere ps k many = (p : PureTree) × (slice_get ps k ≡ Some p) × (length p.params ≡ many)
 

@@ -27,7 +27,7 @@ use Rattle.emit_row_code.specs.Reading.{TestsOnly}
 use Rattle.diagram_meaning.specs.declared.Time.{Time}
 use Rattle.emit_row_code.specs.TestLaws.{disabled, TestIs, ActivityIsTested, HitsAreTested, BothAreTested, control_leaves, IsPlainTest, AllTestsArePlain}
 
--- what one leaf tells
+-- what one leaf says
 module _ (functions : List Function) (reads : Reads) (line : ℕ) (l : Leaf) where
   read_holds : (how : Compare) (n : ℕ) → Holds functions reads line (compare how (read l) (literal (pos n)))
       (compares how (reads.leaf l) (pos n))

@@ -111,7 +111,7 @@ pub map-map : {A B C : Type 0} (g : B → C) (f : A → B) (xs : List A) → map
 map-map g f [] = refl
 map-map g f (x ∷ xs) = ap (λ ys. g (f x) ∷ ys) (map-map g f xs)
 
--- ---- What a loop pushes, behind what stood there before
+-- ---- What a loop pushes, after what was there before
 
 -- of each member one
 pub mapped-next : {A B : Type 0} (f : A → B) (xs : List A) (i : ℕ) (x : A) (before so_far now : List B) → i < length xs →

@@ -52,7 +52,7 @@ module _ (last : ℕ) where
           by true k = k
           by false k = k
 
-  -- a file that is spelled, without a fault
+  -- a file that is spelled, without an error
   record IsFileOf (now : Option CFault) (tokens : List Token) (w : WrittenFile) : Type 0 where
     spelled : Spells tokens w
     none : now ≡ None

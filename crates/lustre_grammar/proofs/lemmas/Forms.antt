@@ -72,7 +72,7 @@ module _ (a b c d e f : Spelling) (same : (tokens : List Token) → f tokens ≡
   paired : (tokens : List Token) → (a ⨾ b ⨾ c ⨾ f) tokens ≡ ((a ⨾ (b ⨾ c) ⨾ d) ⨾ e) tokens
   paired tokens = first-pair (a tokens)
 
--- a mark stands between each two
+-- a mark is between each two
 abbrev pub marked : Option (List ℕ) → (mark close : List ℕ) → Form
 marked first mark close = record { first = first; later = Some mark; after = None; close = Some close }
 
@@ -98,7 +98,7 @@ also-formed mark close spelling (x ∷ xs) tokens =
     regrouped (word mark) (spelling x) nothing (each_after mark spelling xs) (word close)
     (formed (marked (Some mark) mark close) spelling 1 xs) (each-formed (Some mark) mark close spelling 0 xs) tokens
 
--- nothing stands between them
+-- nothing is between them
 abbrev pub plain : Option (List ℕ) → Form
 plain close = record { first = None; later = None; after = None; close = close }
 

@@ -1,4 +1,4 @@
--- Each text has one reading, or else one first fault; and recursive descent finds it.
+-- Each text has one reading, or else one first error; and recursive descent finds it.
 use Rattle.std.proofs.Common.{◌≡◌, ◌⊎◌, inl, inr, refl, sym, ◌∙◌, ap, subst, ℕ, List, Bool, true, false, Option, Some, None, Result, Ok, Err}
 use Rattle.std.specs.List.{list_all}
 use Rattle.c_syntax.specs.declared.fault.CFault.{CFault}
@@ -35,7 +35,7 @@ parsed-within last tokens w e = by (file_within w) refl
         let f : _ = file-too_deep last w tokens (parsing_agrees.read last tokens w e).0 h in
         absurd (ok-err (parse_file last tokens) w f.0 e f.1)
 
--- what tokens without a fault spell is parsed
+-- what tokens without an error spell is parsed
 pub faultless-parsed : (last : ℕ) (tokens : List Token) (w : WrittenFile) → Spells tokens w →
     token_fault file_needs last tokens ≡ None → parse_file last tokens ≡ Ok w
 faultless-parsed last tokens w spelled none = by (file_within w) refl
@@ -63,7 +63,7 @@ module _ (bytes : List ℕ) where
         limit = r.limit.0 (parsed-within (last_line bytes) (tokens_of bytes) w e);
       }
 
-  -- a text with a fault of the grammar
+  -- a text with an error of the grammar
   pub text-refused : (fault : CFault) → parse_text bytes ≡ Err fault → LustreFaultOf bytes fault
   text-refused fault e =
       subst (λ o. IsRuleFault o bytes fault) (sym (parsing_agrees.refused (last_line bytes) (tokens_of bytes) fault e)) refl
@@ -85,7 +85,7 @@ module _ (bytes : List ℕ) where
       let same : a.written ≡ b.written = ok-same a.written b.written (sym (text-parsed f a) ∙ text-parsed g b) in
       ok-same f g (sym a.resolved ∙ ap resolve_file same ∙ b.resolved)
 
-  -- a fault is one of the grammar, or of what is parsed
+  -- an error is one of the grammar, or of what is parsed
   data Told (fault : CFault) : Type 0 where
     among_tokens : first_of ≡ Some fault → Told fault
     by_rule : (w : WrittenFile) → first_of ≡ None → parse_text bytes ≡ Ok w → resolve_file w ≡ Err fault → Told fault
@@ -147,7 +147,7 @@ module _ (bytes : List ℕ) where
 pub texts_are_judged : TextsAreJudged
 texts_are_judged bytes = judged bytes
 
--- tokens have no fault exactly where they spell a file within the limit
+-- tokens have no error exactly where they spell a file within the limit
 pub faultless_is_spelled : FaultlessIsSpelled
 faultless_is_spelled last tokens = (to, from)
   where

@@ -52,7 +52,7 @@ module _ (nodes : List NodeTree) (lawful : AreNodes [] nodes) where
       let whole = and_parts (list_all has_value vs) (are_complete cs) was.1 in
       ((parts.0, whole.0), (parts.1, whole.1))
 
-  -- ---- Where all names have values, nothing is told
+  -- ---- Where all names have values, nothing is reported
 
   abbrev NothingTold : Option Instance → Instance → ℕ → Type 0
   NothingTold before i k = (failed k before i ≡ []) × (waited k before i ≡ [])
@@ -131,7 +131,7 @@ module _ (nodes : List NodeTree) (lawful : AreNodes [] nodes) where
             ∙ both-none (flat_map (waiting (option_map values_in before) vs) n.equations) _ none.0.1 none.1.1,
       )
 
-  -- ---- Where nothing is told, all names have values
+  -- ---- Where nothing is reported, all names have values
 
   equations-whole : (k n : ℕ) → ((c : ℕ) → c < k → c < length nodes → (before : Option Instance) (inputs : List (Option ℤ)) (i : Instance) →
       HasForm nodes c i → WasWhole nodes c before → list_all has_value inputs ≡ true → holding_at (holdings_of nodes) c before inputs i →

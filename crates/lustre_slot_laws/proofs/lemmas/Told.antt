@@ -1,4 +1,4 @@
--- What is told of the instances of a file, in the order in which they are laid out.
+-- What is reported of the instances of a file, in the order in which they are laid out.
 use Rattle.std.proofs.Common.{◌≡◌, refl, sym, ◌∙◌, ap, ap₂, ℕ, zero, suc, ◌+◌, ◌<◌, ℤ, List, [], ◌∷◌, ◌++◌, length, arith, slice_index, Option, drop}
 use Rattle.std.specs.Prelude.{option_map}
 use Rattle.std.specs.List.{flat_map}
@@ -61,7 +61,7 @@ module _ (told : Option (List (Option ℤ)) → List (Option ℤ) → EquationTr
   told-below zero p less there = absurd (omega arith)
   told-below (suc k) p less there = node-told p there (λ q smaller. told-below k q (omega arith))
 
-  -- what is told of a file's instance
+  -- what is reported of a file's instance
   pub told-laid : told_of told f (laid_before f before) (laid now (fresh_root f)) ≡ flat_map (told_in told f before now) (instances_of f)
   told-laid = told-below (suc (root_of f).node) (root_of f) (omega arith) (root-there f lawful)
 

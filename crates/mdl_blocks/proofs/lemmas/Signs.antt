@@ -38,13 +38,13 @@ signs_of-more c text = by (c == 124)
     by true = omega arith
     by false = omega arith
 
--- fewer signs behind a place
+-- fewer signs after a place
 pub signs_of-drop : (i : ℕ) (text : List ℕ) → length (signs_of (drop i text)) ≤ length (signs_of text)
 signs_of-drop zero text = omega arith
 signs_of-drop (suc i) [] = omega arith
 signs_of-drop (suc i) (c ∷ text) = omega (arith, signs_of-drop i text, signs_of-more c text)
 
--- the mask behind a place fits
+-- the mask after a place fits
 pub minus_mask-fits : (i : ℕ) (text : List ℕ) (mask : ℕ) → length (signs_of text) ≤ 16 →
     mask ≡ minus_mask (signs_of (drop i text)) → mask < 2 ^ 20
 minus_mask-fits i text mask h e = omega (arith, e, minus_mask-bound (signs_of (drop i text)) 16 (omega (arith, h, signs_of-drop i text)))

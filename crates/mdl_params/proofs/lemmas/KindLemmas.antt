@@ -1,4 +1,4 @@
--- The types of blocks in memory, with one more behind them.
+-- The types of blocks in memory, with one more after them.
 use Rattle.std.proofs.Common.{◌≡◌, refl, sym, ◌∙◌, ap, ℕ, Bool, true, false, cond, true≢false, List, [], ◌∷◌, ◌++◌, Option, None, Some, is_some, codes}
 use Rattle.std.proofs.lemmas.List.{map-append}
 use Rattle.std.specs.Prelude.{Vec, bytes_eq, option_map}
@@ -13,7 +13,7 @@ use Rattle.mdl_params.specs.BlockTypes.{beside}
 use Rattle.mdl_params.specs.Defaults.{DefaultTexts, values_of, with_kind, kinds_of, AddsKind}
 use Rattle.mdl_params.specs.Texts.{plain_texts, plain_kinds}
 
--- what stands beside a name in one list behind another
+-- what is beside a name in one list after another
 pub beside-append : {A : Type 0} (wanted : List ℕ) (xs ys : List (List ℕ × A)) →
     beside wanted (xs ++ ys) ≡ option_or (beside wanted xs) (beside wanted ys)
 beside-append wanted [] ys = refl
@@ -32,7 +32,7 @@ option_or-some : {A : Type 0} (o p : Option A) → is_some o ≡ true → option
 option_or-some None p some = absurd (true≢false (sym some))
 option_or-some (Some x) p some = refl
 
--- a name that is there already adds nothing behind the list
+-- a name that is there already adds nothing after the list
 pub beside-known : {A : Type 0} (wanted known : List ℕ) (xs : List (List ℕ × A)) (x : A) → is_some (beside known xs) ≡ true →
     beside wanted xs ≡ option_or (beside wanted xs) (beside wanted ((known, x) ∷ []))
 beside-known wanted known xs x some = by_test (bytes_eq wanted known) refl
@@ -79,7 +79,7 @@ AddsKind-known entries kind block own known = λ wanted.
     ∙ is_some-map _ _ ∙ known)
     ∙ ap (λ o. option_or (beside wanted (plain_kinds entries)) (beside wanted (with_kind o block []))) (sym own)
 
--- a block of a new type adds it behind the others
+-- a block of a new type adds it after the others
 pub AddsKind-new : (entries new : List (Vec ℕ Global × Vec ParamText Global)) (key : Vec ℕ Global)
     (texts : Vec ParamText Global) (block : Items) →
     first_value (codes "BlockType") block ≡ Some key.items → plain_texts texts.items ≡ values_of block →

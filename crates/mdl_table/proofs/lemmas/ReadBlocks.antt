@@ -50,7 +50,7 @@ all-there defaults n m (o ∷ os) [] zip all = absurd zip
 all-there defaults n m (o ∷ os) (b ∷ bs) zip all =
     (subst (IsThere n) (sym zip.0.owner) all.0, all-there defaults n (suc m) os bs zip.1 all.1)
 
--- the blocks of a model stand at their numbers, and their owners are among them
+-- the blocks of a model are at their numbers, and their owners are among them
 pub are-blocks : OutlinesAreNumbered → OwnersAreBefore → (defaults : DefaultTexts) (section : SectionTree) (bs : List PlacedBlock) →
     AreBlocksOf defaults section bs → AreBlocks (numbered_from 0 bs)
 are-blocks numbered before defaults section bs zip =
@@ -141,13 +141,13 @@ module _ (by_defaults : ReadingIsByDefaults) (defaults other : DefaultTexts) (sa
   pub refusal-by : refusal_with defaults section ≡ refusal_with other section
   refusal-by = ap₂ (λ a b. first_there (a ∷ b ∷ [])) refused-by (ap rows_refusal model-by)
 
--- ---- Refusals one behind another
+-- ---- Refusals one after another
 
 or-none : (o : Option PlainRefusal) → option_or o None ≡ o
 or-none None = refl
 or-none (Some refusal) = refl
 
--- the fault of the first is the fault of both
+-- the error of the first is the error of both
 pub fault-first : (first : Option PlainRefusal) (more : List (Option PlainRefusal)) (fault : BuildFault) → IsFaultBy first fault →
     IsFaultBy (first_there (first ∷ more)) fault
 fault-first first more (build.Refused refusal) is = ap (λ o. option_or o (first_there more)) is
@@ -157,7 +157,7 @@ fault-first first more build.Memory is = tt
 pub only-second : (first second : Option PlainRefusal) → first ≡ None → first_there (first ∷ second ∷ []) ≡ second
 only-second first second e = ap (λ o. option_or o (option_or second None)) e ∙ or-none second
 
--- the fault of a model that isn't found is that of the file
+-- the error of a model that isn't found is that of the file
 pub fault-found : (r : Result found.Model PlainRefusal) (fault : BuildFault) → IsFaultOf r fault → IsFaultBy (refusal_by r) fault
 fault-found (Ok model) (build.Refused refusal) is = absurd (some-none (plain_refusal refusal) (sym is))
 fault-found (Ok model) build.Memory is = tt

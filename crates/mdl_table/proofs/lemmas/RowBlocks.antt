@@ -123,7 +123,7 @@ accepted defaults system e =
 
 -- ---- A row for each block
 
--- the row of a block where it stands
+-- the row of a block where it is
 pub record IsOutlineRow (defaults : DefaultTexts) (m : Model) (o : Outline) (row : Row) : Type 0 where
   pub text : BlockText
   pub is : read defaults o ≡ Ok text
@@ -155,7 +155,7 @@ zip-length R [] (y ∷ ys) h = absurd h
 zip-length R (x ∷ xs) [] h = absurd h
 zip-length R (x ∷ xs) (y ∷ ys) h = ap suc (zip-length R xs ys h.1)
 
--- what stands at a place beside an item
+-- what is at a place beside an item
 pub zip-at : {A B : Type 0} (R : A → B → Type 0) (xs : List A) (ys : List B) (k : ℕ) (d : B) → AllZip R xs ys → k < length ys →
     (x : A) × (slice_get xs k ≡ Some x) × R x (slice_index_or ys k d)
 zip-at R [] [] k d h g = absurd (omega (arith, g))
@@ -174,7 +174,7 @@ all-at P [] k x h e = absurd (some-none x (sym e))
 all-at P (y ∷ xs) zero x h e = subst P (let same : y ≡ x = cc e in same) h.0
 all-at P (y ∷ xs) (suc k) x h e = all-at P xs k x h.1 e
 
--- the block whose row stands at a number
+-- the block whose row is at a number
 pub record IsRowAt (defaults : DefaultTexts) (m : Model) (os : List Outline) (rs : List Row) (k : ℕ) : Type 0 where
   pub outline : Outline
   pub at : slice_get os k ≡ Some outline

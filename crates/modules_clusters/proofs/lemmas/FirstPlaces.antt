@@ -1,2 +1,2 @@
--- Where things first stand in a list.
+-- Where things first are in a list.
 pub use Rattle.modules_clusters.proofs.Members.{is_some-position, found-at, has-head, has-tail}

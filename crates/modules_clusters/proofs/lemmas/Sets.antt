@@ -1,4 +1,4 @@
--- Sets by falling number of functions: those with as many stand as their first places do.
+-- Sets by falling number of functions: those with as many are in the order of their first places.
 use Rattle.std.proofs.Common.{◌≡◌, ℕ, zero, suc, ◌+◌, ◌<◌, ◌≤◌, ◌&&◌, Bool, true, false, cond, not, eqb, List, [], ◌∷◌, length, get_or, filter, Some, None, is_some, count_ones, refl, sym, ap, subst, ◌∙◌, arith, inl, inr, nat_cmp, is_lt, option_map}
 use Rattle.std.specs.Prelude.{unwrap_or, ⊤, Option}
 use Rattle.std.specs.List.{AllByRecursion, position_from}

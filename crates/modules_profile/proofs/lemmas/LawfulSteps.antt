@@ -1,4 +1,4 @@
--- Numbers that stand once, and wires that are given once.
+-- Numbers that occur once, and wires that are given once.
 use Rattle.std.specs.Prelude.{◌≡◌, ℕ, zero, suc, ◌+◌, ◌*◌, ◌≤◌, Bool, true, false, not, ◌==◌, cond, List, [], ◌∷◌, ◌++◌, map, filter, filter_map, flat_map, find, length, slice_get, get_or, Contains, Option, Some, None, refl}
 use Rattle.std.specs.List.{cons_option, range_with_len}
 use Rattle.std.proofs.Common.{sym, ap, ◌∙◌, arith, inl, inr, true≢false}
@@ -13,7 +13,7 @@ use Rattle.modules_profile.specs.NodeWires.{AreGivenOnce}
 use Rattle.modules_profile.proofs.lemmas.Members.{in-none, in-first, in-rest, number-of, of-filter, of-filter_map, found-in, of-range, in-at, at-append, at-below}
 use Rattle.modules_profile.proofs.Numbered.{Apart, apart-filter}
 
--- ---- Numbers that stand once
+-- ---- Numbers that occur once
 
 pub apart-at : (xs : List ℕ) (i j x : ℕ) → Apart xs → slice_get xs i ≡ Some x → slice_get xs j ≡ Some x → i ≡ j
 apart-at [] i j x h a b = absurd (none-some x a)
@@ -52,7 +52,7 @@ apart-different (x ∷ xs) = (
   apart-filter (λ y. not (y == x)) (different xs) (apart-different xs),
 )
 
--- what is found by ports stands once
+-- what is found by ports occurs once
 pub apart-found : (port : ℕ → ℕ) (own : List ℕ) (a n : ℕ) → Apart (filter_map (λ k. find (λ b. port b == k) own) (range_with_len a n))
 apart-found port own a zero = tt
 apart-found port own a (suc n) = by (find (λ b. port b == a) own) refl (apart-found port own (a + 1) n)
@@ -122,7 +122,7 @@ short-different [] = omega arith
 short-different (x ∷ xs) = let rest = short-different xs in let kept =
     short-filter (λ y. not (y == x)) (different xs) in omega (arith, rest, kept)
 
--- a part for each member, where a wire that is given tells whose it is
+-- a part for each member, where a wire that is given says whose it is
 pub once-flat_map : {A : Type 0} (key : A → Option ℕ) (owner : ℕ → Option ℕ) (f : A → List NodeWires) (xs : List A) (ns : List ℕ) →
     map key xs ≡ map Some ns → Apart ns → ((x : A) → Contains xs x → AreGivenOnce (f x)) →
     ((x : A) (w : NodeWires) (c : ℕ) → Contains xs x → Contains (f x) w → Contains w.gives c → owner c ≡ key x) →

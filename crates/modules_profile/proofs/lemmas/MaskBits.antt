@@ -42,7 +42,7 @@ has-holds bits k has = by (slice_index_or bits k false) refl
         let none : bit_at (mask_of bits) k ≡ 0 = bit-of-mask bits k ∙ ap (λ t. cond t 1 0) e in
         absurd (omega arith)
 
--- a test of what stands at a place
+-- a test of what is at a place
 pub index-at : (f : ℕ → Bool) (xs : List ℕ) (k x : ℕ) → slice_get xs k ≡ Some x → slice_index_or (map f xs) k false ≡ f x
 index-at f [] k x e = absurd (let wrong : ⊥ = cc e in wrong)
 index-at f (y ∷ ys) zero x e = let same : y ≡ x = cc e in ap f same

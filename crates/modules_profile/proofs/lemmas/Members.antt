@@ -1,4 +1,4 @@
--- Members of lists and what stands at their places: of lists that are mapped, filtered, searched, numbered and paired.
+-- Members of lists and what is at their places: of lists that are mapped, filtered, searched, numbered and paired.
 use Rattle.std.specs.Prelude.{◌≡◌, ◌⊎◌, ℕ, zero, suc, ◌+◌, ◌<◌, ◌≤◌, Bool, true, false, cond, List, [], ◌∷◌, ◌++◌, map, filter, filter_map, find, zip, length, slice_get, Contains, Option, Some, None, refl}
 use Rattle.std.specs.List.{cons_option, range_with_len, enumerate_from}
 use Rattle.std.proofs.Common.{sym, ap, subst, ◌∙◌, arith, inl, inr, true≢false}
@@ -211,7 +211,7 @@ module _ {A : Type 0} where
         (suc m.0, (let next : n + suc m.0 ≡ n + 1 + m.0 = omega arith in next) ∙ m.1, m.2)
   ]
 
--- ---- One list behind another
+-- ---- One list after another
 
 pub at-left : {A : Type 0} (xs ys : List A) (k : ℕ) (x : A) → slice_get xs k ≡ Some x → slice_get (xs ++ ys) k ≡ Some x
 at-left [] ys k x e = absurd (let wrong : ⊥ = cc e in wrong)
@@ -223,7 +223,7 @@ at-right [] ys k x e = let same : k ≡ 0 + k = omega arith in subst (λ i. slic
 at-right (z ∷ zs) ys k x e = let same : suc (length zs + k) ≡ suc (length zs) + k = omega arith in
     subst (λ i. slice_get (z ∷ zs ++ ys) i ≡ Some x) same (at-right zs ys k x e)
 
--- a place in one list behind another is one in the first, or one in the second
+-- a place in one list after another is one in the first, or one in the second
 pub at-append : {A : Type 0} (xs ys : List A) (k : ℕ) (x : A) → slice_get (xs ++ ys) k ≡ Some x →
     (slice_get xs k ≡ Some x) ⊎ ((i : ℕ) × (length xs + i ≡ k) × (slice_get ys i ≡ Some x))
 at-append [] ys k x e = inr (k, omega arith, e)

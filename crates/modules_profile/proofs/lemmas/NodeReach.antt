@@ -81,7 +81,7 @@ module _ (local : LocalSystem) where
           (in-range 1 (length (header_functions u.header)) (suc k) (omega arith)
           (let low = inside-functions u k c h in omega (arith, low))))
 
-  -- a node that gives a wire stands in the list
+  -- a node that gives a wire is in the list
   pub stands : (z : Node) (c : ℕ) → Contains (node_gives local z) c → Stands z
   stands (Row b) c h = row-stands b c (row_of local b) refl h
   stands (Call e j) c h = call-stands e j c (child_of local e) refl h

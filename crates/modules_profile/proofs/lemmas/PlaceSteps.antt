@@ -43,7 +43,7 @@ ported-more test rows i r t inside read told =
     ∙ map-append number (filter (passes test) (enumerate_from 0 (take i rows))) (filter (passes test) ((i, r) ∷ []))
     ∙ ap (λ es. ported_places test (take i rows) ++ es) (last i r (test r.kind) t told)
 
--- ---- Where an own row stands among the nodes
+-- ---- Where an own row is among the nodes
 
 pub own-position : (rows : List LocalRow) (tail : List Node) (n i : ℕ) (r : LocalRow) → KeysDiffer (λ q. q.row) rows →
     slice_get rows i ≡ Some r →
@@ -172,7 +172,7 @@ module _ (local : LocalSystem) (is : IsLocal local) (test : Kind → Bool) where
       (place_with (ported_places test local.rows)) (range_with_len 1 (length kept))
       (λ k. found-place test place 0 k local.rows (λ i r at. own-place i r at ∙ (let e : i ≡ 0 + i = omega arith in e)))
 
-  -- an own port stands at its place
+  -- an own port is at its place
   pub stands-at : (r : LocalRow) → Contains (rows_by_port local test) r → slice_get local.rows (place r) ≡ Some r
   stands-at r h =
       let kept : List LocalRow = filter (λ (q : LocalRow). test q.kind) local.rows in

@@ -75,7 +75,7 @@ module _ (rows : List Row) (o : Option ℕ) where
           let n = of-own c i in
           ports.one_each b c m.0 n.0 m.1 n.1 m.2 n.2 same
 
-      -- a row that passes stands at its port
+      -- a row that passes is at its port
       pub port-place : (b : ℕ) → b < length rows → (row_at rows b).owner ≡ o → test (row_at rows b).kind ≡ true →
           slice_get (by_port rows o test) (port_of (row_at rows b).kind - 1) ≡ Some b
       port-place b below own passes =

@@ -172,7 +172,7 @@ module _ (p q : ProgramTree) (same : p.structs ≡ q.structs) where
 -- ---- Two programs that do the same
 
 -- Two programs have the same structs, procedures at the same positions by name, and do the same at
--- each call, from the start and over each trace, but for the line where one is stuck.
+-- each call, from the start and over each trace, except for the line where one is stuck.
 pub record AreAlike (p q : ProgramTree) : Type 0 where
   pub structs : p.structs ≡ q.structs
   pub places : (name : List ℕ) → procedure_place p name ≡ procedure_place q name

@@ -1,4 +1,4 @@
--- Each row of a system has its slots, and what holds of all slots of fields holds where a slot stands.
+-- Each row of a system has its slots, and what holds of all slots of fields holds where a slot is.
 use Rattle.std.specs.Prelude.{◌≡◌, ℕ, zero, suc, true, if◌then◌else◌, List, [], ◌∷◌, ◌++◌, map, flat_map, filter, slice_get, Contains, Some}
 use Rattle.std.specs.List.{enumerate_from}
 use Rattle.std.proofs.Common.{sym, subst, inl, inr}

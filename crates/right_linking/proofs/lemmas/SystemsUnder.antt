@@ -195,7 +195,7 @@ module _ (rows : List Row) (nested : IsNested rows) where
       ap (λ es. map field (reverse (x ∷ es))) (under-around n e k x below child u)
       ∙ ap (map field) (reverse-append (x ∷ around_inside rows (Some e) x) (e ∷ []))
 
-  -- what stands from a child on is not a system around it
+  -- what is from a child on is not a system around it
   pub system-before : (s n : Option ℕ) (e z : ℕ) → IsSystemWithin rows s n → IsChildRow rows n e → e ≤ z → is_system s z ≡ false
   system-before None n e z within child le = refl
   system-before (Some k) n e z within child le = by n refl within

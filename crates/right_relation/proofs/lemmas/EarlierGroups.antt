@@ -1,4 +1,4 @@
--- The group of a needed node stands before, or is the same: more functions hold it, or the same.
+-- The group of a needed node comes before, or is the same: more functions hold it, or the same.
 use Rattle.std.specs.Prelude.{◌≡◌, ◌⊎◌, ℕ, zero, suc, ◌+◌, ◌-◌, ◌*◌, ◌/◌, ◌%◌, ◌^◌, ◌<◌, ◌≤◌, ◌==◌, List, [], ◌∷◌, ◌++◌, length, slice_index, count_ones, unwrap_or, Contains, Option, Some, None, true, refl}
 use Rattle.std.specs.Int.{bit_at}
 use Rattle.std.specs.List.{position_from}
@@ -57,7 +57,7 @@ more-or-same (suc d) a b low less covers =
     by (inr same) (inl more) = inl (omega (arith, ap count_ones same, more, ones-of a, ones-of b))
     by (inr same) (inr most) = inr (omega (arith, same, most, lowest))
 
--- ---- The set of a node stands at its group
+-- ---- The set of a node is at its group
 
 has-in : (xs : List ℕ) (x : ℕ) → Contains xs x → has xs x ≡ true
 has-in [] x h = absurd (in-none x h)

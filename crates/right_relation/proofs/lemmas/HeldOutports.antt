@@ -27,7 +27,7 @@ use Rattle.modules_profile.proofs.lemmas.OwnRows.{differ-at, given}
 use Rattle.right_relation.specs.SoundLocals.{IsSoundLocal}
 use Rattle.right_relation.specs.StandingLaws.{OutportIsHeldAlone}
 
--- what is found by ports stands once
+-- what is found by ports occurs once
 found-once : (rows : List LocalRow) (a n i k : ℕ) (o : LocalRow) →
     slice_get (filter_map (λ p. find (λ (r : LocalRow). port_of r.kind == p) rows) (range_with_len a n)) i ≡ Some o →
     slice_get (filter_map (λ p. find (λ (r : LocalRow). port_of r.kind == p) rows) (range_with_len a n)) k ≡ Some o → i ≡ k

@@ -39,7 +39,7 @@ counted-at f [] k x at = absurd (none-some x at)
 counted-at f (y ∷ xs) zero x at = let same = ap f (same_Some y x at) in omega (arith, same)
 counted-at f (y ∷ xs) (suc k) x at = let rest = counted-at f xs k x at in omega (arith, rest)
 
--- where what passes stands at one place
+-- where what passes is at one place
 at-most-one : {A : Type 0} (test : A → Bool) (xs : List A) →
     ((i k : ℕ) (x y : A) → slice_get xs i ≡ Some x → slice_get xs k ≡ Some y → test x ≡ true → test y ≡ true → i ≡ k) →
     total (λ x. one-if (test x)) xs ≤ 1

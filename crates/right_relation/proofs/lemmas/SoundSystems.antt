@@ -100,7 +100,7 @@ module _ (d : Diagram) (delays : List Bool) (s : Option ℕ) (headers : List Sys
       let before = (subst (IsOwner d.rows b) inside (nested.owned b below)).0 in
       not-itself e (omega (arith, before, below)) (outside ∙ sym own ∙ inside)
 
-  -- the Outport that stands in the table
+  -- the Outport that is in the table
   record IsOwnOutport (o : LocalRow) : Type 0 where
     pub owned : (row_at d.rows o.row).owner ≡ s
     pub is : is_outport (row_at d.rows o.row).kind ≡ true

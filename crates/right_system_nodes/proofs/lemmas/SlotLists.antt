@@ -22,7 +22,7 @@ right-at (y ∷ xs) ys k x at =
     (let next : suc (length xs) + k ≡ suc (length xs + k) = omega arith in ap (slice_get (y ∷ (xs ++ ys))) next)
     ∙ right-at xs ys k x at
 
--- what stands at a place of the list that is paired with its places
+-- what is at a place of the list that is paired with its places
 pub enumerate-at : {A : Type 0} (n : ℕ) (xs : List A) (k : ℕ) (x : A) → slice_get xs k ≡ Some x →
     slice_get (enumerate_from n xs) k ≡ Some (n + k, x)
 enumerate-at n [] k x at = absurd (none-some x at)
@@ -51,7 +51,7 @@ index-or-at (y ∷ xs) (suc k) other x at = index-or-at xs k other x at
 
 -- ---- The first place of a number
 
--- none of these numbers stands twice
+-- none of these numbers occurs twice
 abbrev pub Apart : List ℕ → Type 0
 Apart [] = ⊤
 Apart (x ∷ xs) = ((y : ℕ) → Contains xs y → x ≡ y → ⊥) × Apart xs
@@ -83,7 +83,7 @@ apart-kept {A} number test (x ∷ xs) h = by (test x) (apart-kept number test xs
         in-map-of z has = let at = at-in xs z has in in-at (map number xs) at.0 (number z) (at-map number xs at.0 z at.1)
     by false rest = rest
 
--- a number that stands once is found where it stands
+-- a number that occurs once is found where it is
 pub first-at : {A : Type 0} (number : A → ℕ) (a : ℕ) (xs : List A) (k : ℕ) (x : A) → Apart (map number xs) →
     slice_get xs k ≡ Some x →
     position_from (λ key. key == number x) a (map number xs) ≡ Some (a + k)

@@ -1,4 +1,4 @@
--- Where the slots of a system's struct stand.
+-- Where the slots of a system's struct are.
 use Rattle.std.specs.Prelude.{◌≡◌, ℕ, zero, suc, ◌+◌, ◌*◌, Bool, true, false, if◌then◌else◌, List, [], ◌∷◌, ◌++◌, map, flat_map, filter, length, slice_get, unwrap_or, Contains, Some, refl}
 use Rattle.std.specs.List.{enumerate_from}
 use Rattle.std.proofs.Common.{sym, ap, subst, ◌∙◌, arith, inl, inr}
@@ -93,7 +93,7 @@ module _ (local : LocalSystem) (schedule : SystemSchedule) where
   abbrev slots : List Slot
   slots = code_slots local schedule
 
-  -- where a slot of each kind stands
+  -- where a slot of each kind is
   abbrev pub Stands : ℕ → Slot → Type 0
   Stands f (value r) = Contains local.rows r × (has_value r.kind ≡ true) × (value_field local r.row ≡ f)
   Stands f (memory r) = Contains local.rows r × (is_single r.op ≡ true) × (memory_field local r.row ≡ f)
@@ -238,11 +238,11 @@ module _ (local : LocalSystem) (schedule : SystemSchedule) where
     filled [] each (suc f) x at = absurd (none-some x at)
     filled (y ∷ ys) each f x at = each f x at
 
-    -- what stands at a place stands where it should
+    -- what is at a place is where it should be
     pub stands : (f : ℕ) (x : Slot) → slice_get slots f ≡ Some x → Stands f x
     stands = filled (own_slots local ++ counters) of-all
 
-    -- ---- What stands there
+    -- ---- What is there
 
     into-filled : (xs : List Slot) (f : ℕ) (x : Slot) → slice_get xs f ≡ Some x → slice_get (or_filler xs) f ≡ Some x
     into-filled [] f x at = absurd (none-some x at)

@@ -28,13 +28,13 @@ fn numbers_are_appended_and_texts_copied(rt: HostRuntime) -> Result<(), Fail> {
     Ok(())
 }
 
-// Puts the line that tells of a refusal.
+// Prints the line that reports a refusal.
 fn push_line(alloc: Global, lines: &mut Vec<u8>, refusal: Refusal) -> Result<(), Memory> {
     let line = refusal_text(alloc, &refusal)?;
     Ok(lines.extend_from_slice(&line)?)
 }
 
-// The lines that tell of some refusals.
+// The lines that report some refusals.
 fn lines(alloc: Global) -> Result<Vec<u8>, Memory> {
     let name = ParamName::SampleTime;
     let port = Port::Number(2);

@@ -39,7 +39,7 @@ fn holds_text<H: Host>(
 // How many bytes it has.
 const LENGTH: usize = 44;
 
-// Whether a file holds the text, of a host of which this call fails, with how many calls failed for want of memory.
+// Whether a file holds the text, of a host of which this call fails, with how many calls ran out of memory.
 fn read_of(
     alloc: Global,
     fail: u64,
@@ -88,7 +88,7 @@ fn a_file_is_read_whole_or_not(rt: HostRuntime) -> Result<(), Fail> {
 }
 
 // Whether a text is written to a file where this call fails, whole where it is none of them, so that so many files are written, whose
-// names and bytes are these, and no call fails for want of memory.
+// names and bytes are these, and no call runs out of memory.
 fn is_written(alloc: Global, fail: u64, files: usize, want: &str) -> Result<bool, AllocError> {
     let mut host = host_of(alloc, &[fail], 16)?;
     let is_whole = write_all(&mut host, "c", TEXT).is_ok();
@@ -105,7 +105,7 @@ fn is_written(alloc: Global, fail: u64, files: usize, want: &str) -> Result<bool
     )
 }
 
-// Whether a text is put so where this call fails, whole where it is none of them, and no call fails for want of memory.
+// Whether a text is printed so where this call fails, whole where it is none of them, and no call runs out of memory.
 fn is_put(alloc: Global, fail: u64, want: &str) -> Result<bool, AllocError> {
     let mut sink = MemSink::new(alloc, [fail].to_vec(alloc)?, 16);
     let is_whole = put_all(&mut sink, TEXT).is_ok();
@@ -159,14 +159,14 @@ fn sure_ends_read_what_they_have_and_count_what_they_take(rt: HostRuntime) -> Re
     Ok(())
 }
 
-// How many bytes the sink has once it was put these, of which some may wait.
+// How many bytes the sink has once these were printed to it, of which some may wait.
 fn bytes_put(buffer: &mut PutBuffer, sink: &mut MemSink, bytes: &[u8]) -> Option<usize> {
     buffer.put(sink, bytes).ok()?;
     Some(sink.bytes().len())
 }
 
-// How many bytes a sink has once the text was put; whether the buffer is flushed, and it then has the text; and how many it
-// has behind one further byte, and behind many.
+// How many bytes a sink has once the text was printed; whether the buffer is flushed, and it then has the text; and how many it
+// has after one further byte, and after many.
 fn bytes_behind_puts(
     alloc: Global,
 ) -> Result<(Option<usize>, (bool, bool), [Option<usize>; 2]), AllocError> {
@@ -193,12 +193,12 @@ fn filled(alloc: Global) -> Result<(bool, Option<usize>, bool), AllocError> {
 #[test]
 fn bytes_wait_in_buffers(rt: HostRuntime) -> Result<(), Fail> {
     let length = TEXT.len();
-    // Once there are too many the byte before them is put, and they wait.
+    // Once there are too many the byte before them is printed, and they wait.
     assert_eq!(rt;
         bytes_behind_puts(rt.alloc())?,
         (Some(0), (true, true), [Some(length), Some(length + 1)])
     );
-    // They are read behind those that are there.
+    // They are read after those that are there.
     assert_eq!(rt; filled(rt.alloc())?, (true, Some(16), true));
     Ok(())
 }
@@ -211,7 +211,7 @@ fn reads<H: Host>(alloc: Global, host: &mut H) -> [Result<bool, ReadAllFault>; 3
     [kept, missing, folder]
 }
 
-// The length of the kept file once a byte is written behind it, and a file in a folder that isn't there could not be.
+// The length of the kept file once a byte is written after it, and a file in a folder that isn't there could not be.
 fn longer<H: Host>(alloc: Global, host: &mut H) -> Option<usize> {
     if write_all(host, "no/such/folder", TEXT).is_ok() {
         return None;

@@ -96,7 +96,7 @@ struct Conversion {
     result: i64,
 }
 
-/// The conversion that a line tells of.
+/// The conversion that a line describes.
 fn conversion_of(line: &str) -> Option<Conversion> {
     let mut fields = line.split(' ');
     let number = fields.next()?.parse::<i128>().ok()?;

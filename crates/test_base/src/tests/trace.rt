@@ -13,7 +13,7 @@ const fn bad(line: u32, why: BadWhy) -> BadLine {
 
 const AB: &[u8] = b"ab\r\nc";
 
-// So many digits, and what stands behind them.
+// So many digits, and what is after them.
 fn digits(alloc: Global, count: usize, end: &str) -> Result<Vec<u8>, AllocError> {
     let mut text = vec![in alloc; b'1'; count]?;
     text.extend_from_slice(end.as_bytes())?;
@@ -26,7 +26,7 @@ fn line_of(alloc: Global, count: usize, end: &str, is_last: bool) -> Result<Next
     Ok(next_line(&text, 0, is_last))
 }
 
-/// So many digits, what stands behind them, whether the text is whole, and what its first line is.
+/// So many digits, what is after them, whether the text is whole, and what its first line is.
 const LONG_LINES: &[(usize, &str, bool, Next)] = &[
     (
         4096,
@@ -153,7 +153,7 @@ fn plain_rows_are_read(rt: HostRuntime) {
 
 const ROWS: &[u8] = b"5\n200\r\n-7";
 
-// Rows from a place on behind so many lines; the last has no end.
+// Rows from a place on after so many lines; the last has no end.
 #[test]
 fn rows_follow_each_other(rt: HostRuntime) {
     let mut into = [0];

@@ -45,7 +45,7 @@ void root_step(struct root *s, int32_t u1) {
 }
 ";
 
-// What is told of it.
+// What is reported of it.
 const EACH_FORM_AS_READ: &str = "\
 Pick(\
 Either(Compare(Gt, Read(Param(0)), Read(Param(1))), \
@@ -81,7 +81,7 @@ void root_step(struct root *s, int32_t u1) {
 }
 ";
 
-// What is told of it.
+// What is reported of it.
 const COPY_AS_READ: &str = "\
 []
 [Set { line: 11, field: 0, value: Read(Param(0)) }]
@@ -100,7 +100,7 @@ fn bodies(alloc: Global, program: &Program) -> Result<String, AllocError> {
     Ok(bodies)
 }
 
-// Tells of a program its bodies, and where `root_step` and `chosen` are among its procedures.
+// Reports of a program its bodies, and where `root_step` and `chosen` are among its procedures.
 fn told(alloc: Global, checked: &Checked) -> Result<String, AllocError> {
     let mut told = bodies(alloc, checked.program())?;
     let step = checked.procedure(b"root_step");
@@ -109,7 +109,7 @@ fn told(alloc: Global, checked: &Checked) -> Result<String, AllocError> {
     Ok(told)
 }
 
-// What is told of the program of a text, and the text as it is printed.
+// What is reported of the program of a text, and the text as it is printed.
 fn read_and_printed(alloc: Global, text: &[u8]) -> Result<(String, Vec<u8>), Fail> {
     let checked = read_c(alloc, text)?;
     let program = checked.program();

@@ -50,7 +50,7 @@ void root_start(struct root *s) {
 void root_step(struct root *s) {
 ";
 
-// The machine of a text whose `START` is this, without its last statements, which stand in `root_step`.
+// The machine of a text whose `START` is this, without its last statements, which are in `root_step`.
 fn machine_of(alloc: Global, text: &str, start: &str, step: &str) -> Result<Machine, Fail> {
     let (before, behind) = text.split_once("START").unwrap_or((text, ""));
     let whole = format!(in alloc; "{before}{start}{behind}{step}\n}}\n")?;
@@ -71,7 +71,7 @@ fn tick_of(machine: &mut Machine) -> Option<Result<Cost, Stuck>> {
     }
 }
 
-// Tells of these fields of a machine's instances: the number and the instance that each is.
+// Says of these fields of a machine's instances: the number and the instance that each is.
 fn tell(alloc: Global, machine: &Machine, fields: &[(u32, &str)]) -> Result<String, AllocError> {
     let mut text = String::new(alloc);
     for &(instance, name) in fields {
@@ -82,7 +82,7 @@ fn tell(alloc: Global, machine: &Machine, fields: &[(u32, &str)]) -> Result<Stri
     Ok(text)
 }
 
-/// A program: its text, what it begins with, and its last statements; so many ticks; some fields; and what is told of these.
+/// A program: its text, what it begins with, and its last statements; so many ticks; some fields; and what is reported of these.
 type Run = (
     &'static str,
     &'static str,
@@ -180,7 +180,7 @@ const RUNS: &[Run] = &[
     ),
 ];
 
-// What is told of a run's fields behind its ticks.
+// What is reported of a run's fields after its ticks.
 fn told(alloc: Global, run: &Run) -> Result<String, Fail> {
     let (text, start, step, ticks, fields, _) = *run;
     let mut machine = machine_of(alloc, text, start, step)?;

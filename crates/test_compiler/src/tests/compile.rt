@@ -32,7 +32,7 @@ fn seen(alloc: Global, parts: &str) -> Result<([u32; 3], String), Fail> {
     Ok((counts, types_of(alloc, &compiled.inputs)?))
 }
 
-/// Tells of types: whether each has a sign, its bits and its fraction bits.
+/// Says of types: whether each has a sign, its bits and its fraction bits.
 fn types_of(alloc: Global, types: &[FixType]) -> Result<String, Fail> {
     let mut told = String::new(alloc);
     for t in types {
@@ -94,7 +94,7 @@ fn what_systems_have(rt: HostRuntime) -> Result<(), Fail> {
             [7, 2, 3],
             "fixdt(1,32,0) ",
         ),
-        // The subsystem stands before the Inports of the root that are its controls; its own Inport is no input of the root.
+        // The subsystem is before the Inports of the root that are its controls; its own Inport is no input of the root.
         (
             "SubSystem s {; Inport x; EnablePort e; TriggerPort t; Outport y; x 1 > y 1; }; \
              Inport c Port=3 OutDataTypeStr=boolean; Inport b Port=2 OutDataTypeStr=boolean; Inport a OutDataTypeStr=int32; \

@@ -9,7 +9,7 @@ fn long_order(alloc: Global, shape: &str) -> Result<Vec<u32>, Fail> {
     Ok(order(alloc, &g)?)
 }
 
-// A line stands in its order, a reversed line backwards, and a star behind its middle.
+// A line is in its order, a reversed line backwards, and a star after its middle.
 #[test]
 fn long_orders(rt: HostRuntime) -> Result<(), Fail> {
     for &shape in &["line", "reversed", "star"] {
@@ -22,7 +22,7 @@ fn long_orders(rt: HostRuntime) -> Result<(), Fail> {
     Ok(())
 }
 
-/// The order of the nodes of a graph, or the cycle that is told.
+/// The order of the nodes of a graph, or the cycle that is reported.
 fn order_told(alloc: Global, g: &Graph) -> Result<String, Fail> {
     match order(alloc, g) {
         Ok(list) => Ok(format!(in alloc; "order {list:?}")?),
@@ -37,7 +37,7 @@ fn is_order(alloc: Global, n: u32, edges: &[(u32, u32)], expected: &str) -> Resu
     is_told(&order_told(alloc, &g)?, expected)
 }
 
-// The least node that may stand is next, and a cycle of three is told.
+// The least node that may come is next, and a cycle of three is reported.
 #[test]
 fn small_orders(rt: HostRuntime) -> Result<(), Fail> {
     is_order(rt.alloc(), 4, &[(3, 0), (1, 2)], "order [1, 2, 3, 0]")?;

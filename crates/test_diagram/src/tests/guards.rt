@@ -62,7 +62,7 @@ const BOTH: Control = Control::Both {
 
 #[test]
 fn rises_over_ticks(rt: HostRuntime) {
-    // A trigger of 1, 0, 1, 1 has one rise, and one that waits for a rise stands at that tick alone.
+    // A trigger of 1, 0, 1, 1 has one rise, and one that waits for a rise holds at that tick alone.
     let mut memory = TrigMem::NotYet;
     for &(value, stands) in &[(1, false), (0, false), (1, true), (1, false)] {
         assert_eq!(rt; active(true, &TRIGGERED, memory, 0, value), stands);

@@ -4,7 +4,7 @@ use diagram_needs::find_in;
 use std::alloc::Global;
 use std::test::Fail;
 
-/// The loop that is told of a graph: `none`, its nodes, or how many they are where they count up from 0.
+/// The loop that is reported of a graph: `none`, its nodes, or how many they are where they count up from 0.
 fn loop_told(alloc: Global, g: &Graph) -> Result<String, Fail> {
     match find_in(alloc, g)? {
         None => Ok(format!(in alloc; "none")?),
@@ -24,14 +24,14 @@ fn small_loops(rt: HostRuntime) -> Result<(), Fail> {
     let alloc = rt.alloc();
     // A sum and a gain that go round.
     is_loop(alloc, 4, &[(0, 1), (2, 1), (1, 2), (1, 3)], "[1, 2]")?;
-    // The first of two loops as short is told.
+    // The first of two loops as short is reported.
     is_loop(
         alloc,
         5,
         &[(4, 1), (3, 1), (2, 3), (2, 4), (1, 2)],
         "[1, 3, 2]",
     )?;
-    // A shortest loop through the least row is told: 0 needs 1, 1 needs 2, 2 needs 0; 0 needs 4, 4 needs 0; 3 needs itself.
+    // A shortest loop through the least row is reported: 0 needs 1, 1 needs 2, 2 needs 0; 0 needs 4, 4 needs 0; 3 needs itself.
     is_loop(
         alloc,
         5,
@@ -49,7 +49,7 @@ fn small_loops(rt: HostRuntime) -> Result<(), Fail> {
     )
 }
 
-/// The loop that is told of 20,000 nodes with edges of this shape and one more.
+/// The loop that is reported of 20,000 nodes with edges of this shape and one more.
 fn long_loop(alloc: Global, shape: &str, more: Option<(u32, u32)>) -> Result<String, Fail> {
     let mut edges = long_edges(alloc, shape)?;
     if let Some(edge) = more {
@@ -59,7 +59,7 @@ fn long_loop(alloc: Global, shape: &str, more: Option<(u32, u32)>) -> Result<Str
     loop_told(alloc, &g)
 }
 
-// One long loop, a loop behind a long chain, and a line that has no loop.
+// One long loop, a loop after a long chain, and a line that has no loop.
 #[test]
 fn long_loops(rt: HostRuntime) -> Result<(), Fail> {
     for &(shape, more, expected) in &[

@@ -6,7 +6,7 @@ mod schedule;
 
 use std::test::Fail;
 
-/// Fails where what is told of some text isn't what is expected.
+/// Fails where what is reported of some text isn't what is expected.
 fn is_told(told: &[u8], expected: &str, text: &str) -> Result<(), Fail> {
     if told == expected.as_bytes() {
         return Ok(());

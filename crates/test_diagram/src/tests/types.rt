@@ -51,7 +51,7 @@ fn tree_of_one(alloc: Global, text: TypeText) -> Result<Tree, Memory> {
     Ok(Tree::new(table, root))
 }
 
-/// The line of the row that is refused for want of a type, and why it has none.
+/// The line of the row that is refused for lack of a type, and why it has none.
 fn missing_type(fault: &BuildFault) -> Option<(u32, TypeWhy)> {
     match fault {
         BuildFault::Refused(Refusal::NoType { line, why }) => Some((*line, *why)),

@@ -3,11 +3,11 @@ use lustre_reader::{ReadLusFault, read_lustre};
 use std::alloc::Global;
 use std::test::Fail;
 
-/// A text, and the line and kind of its first fault, if it has one.
+/// A text, and the line and kind of its first error, if it has one.
 type Reading = (&'static str, Option<(u32, CKind)>);
 
 const READINGS: &[Reading] = &[
-    // At the end of a text a fault stands on its last line; a file has one node at least.
+    // At the end of a text an error is on its last line; a file has one node at least.
     ("", Some((1, CKind::Syntax))),
     ("node a () returns ();\nlet\n", Some((2, CKind::Syntax))),
     ("node a () returns (); let tel;", None),
@@ -60,7 +60,7 @@ const READINGS: &[Reading] = &[
         "node a () returns (y: int; z: int); let\ny, z =\n1; tel;",
         Some((3, CKind::Syntax)),
     ),
-    // A name that is read stands on its own line; a wrong type is found before it, on the line of its equation.
+    // A name that is read is on its own line; a wrong type is found before it, on the line of its equation.
     (
         "node a (u: int) returns (y: int);\nlet\ny = (u +\nz); tel;",
         Some((4, CKind::Name)),
@@ -93,7 +93,7 @@ const READINGS: &[Reading] = &[
     ),
 ];
 
-// The line and kind of the first fault of a text, if it has one.
+// The line and kind of the first error of a text, if it has one.
 fn first_fault(alloc: Global, text: &str) -> Result<Option<(u32, CKind)>, Fail> {
     match read_lustre(alloc, text.as_bytes()) {
         Ok(_) => Ok(None),

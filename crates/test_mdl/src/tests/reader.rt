@@ -81,7 +81,7 @@ fn saved_model(rt: HostRuntime) -> Result<(), Fail> {
     has_saved_values(found)
 }
 
-// Fails where reading a text has another first fault.
+// Fails where reading a text has another first error.
 fn is_fault(alloc: Global, text: &str, line: u32, kind: SyntaxKind) -> Result<(), Fail> {
     if read_mdl(alloc, text.as_bytes()).err() == Some(ReadFault::Syntax { line, kind }) {
         return Ok(());

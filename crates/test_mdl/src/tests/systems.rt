@@ -12,7 +12,7 @@ use std::alloc::Global;
 use std::test::Fail;
 use test_models::model_of;
 
-/// The text of a refusal, or want of memory.
+/// The text of a refusal, or that memory ran out.
 fn told(alloc: Global, fault: &BuildFault) -> Result<Vec<u8>, Fail> {
     match fault {
         BuildFault::Refused(refusal) => Ok(refusal_text(alloc, refusal)?),
@@ -44,7 +44,7 @@ fn is_told_of_file(alloc: Global, text: &str, expected: &str) -> Result<(), Fail
     Err(Fail::new(format_args!("{told:?} is told, not {expected:?}, of {text}")))
 }
 
-/// A part without how often it stands, and that, as in `32 * Ground g`.
+/// A part without how often it occurs, and that, as in `32 * Ground g`.
 fn counted(part: &str) -> Result<(usize, &str), Fail> {
     match part.split_once(" * ") {
         Some((count, part)) => Ok((count.parse::<usize>()?, part)),
@@ -52,7 +52,7 @@ fn counted(part: &str) -> Result<(usize, &str), Fail> {
     }
 }
 
-/// Parts of which some stand several times, each written out.
+/// Parts of which some occur several times, each written out.
 fn written_out(alloc: Global, parts: &str) -> Result<String, Fail> {
     let mut text = String::new(alloc);
     for part in parts.split("; ") {
@@ -65,7 +65,7 @@ fn written_out(alloc: Global, parts: &str) -> Result<String, Fail> {
     Ok(text)
 }
 
-/// The text of a model of these parts, of which some may stand several times.
+/// The text of a model of these parts, of which some may occur several times.
 fn model_text(alloc: Global, parts: &str) -> Result<String, Fail> {
     Ok(model_of(alloc, &written_out(alloc, parts)?)?)
 }

@@ -42,7 +42,7 @@ const LINES: &[(&str, &str, &str)] = &[
         "refused F11 NoPort line 11",
         "refused F11 NoPort line 15",
     ),
-    // A second end at one input: of another line, of a branch, which opens behind its line whatever is written first, and at a
+    // A second end at one input: of another line, of a branch, which opens after its line whatever is written first, and at a
     // control.
     (
         "a 1 > b 1; a 1 > b 1; a 1 > b 1",

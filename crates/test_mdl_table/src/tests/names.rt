@@ -2,7 +2,7 @@ use super::answer;
 use std::test::Fail;
 use test_models::at_both_depths;
 
-// A name or a port that stands twice, told at the later of the first two such.
+// A name or a port that occurs twice, reported at the later of the first two such.
 const NAMES_AND_PORTS: &[(&str, &str, &str)] = &[
     (
         "Ground a; SubSystem b {; Ground a; Ground b; }",
@@ -31,7 +31,7 @@ const NAMES_AND_PORTS: &[(&str, &str, &str)] = &[
     ),
 ];
 
-// Blocks that lines name and the System hasn't, also where no end is written; told at the line or the branch.
+// Blocks that lines name and the System hasn't, also where no end is written; reported at the line or the branch.
 const BLOCKS: &str = "Ground a; Terminator b; _";
 
 const BLOCKS_THAT_LINES_NAME: &[(&str, &str, &str)] = &[

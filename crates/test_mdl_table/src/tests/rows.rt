@@ -11,7 +11,7 @@ const CROSSED: &str = "Inport a OutDataTypeStr=int32; \
     SubSystem s {; Inport x1 Port=1; Inport x2 Port=2; Outport y1 Port=1; Outport y2 Port=2; \
     x1 1 > y1 1; x2 1 > y2 1; }; Outport o; a 1 > s 1; s 1 > s 2; s 2 > o 1";
 
-/// A subsystem with both controls, whose ports and lines stand in another order than the enable before the trigger.
+/// A subsystem with both controls, whose ports and lines are in another order than the enable before the trigger.
 const CONTROLLED: &str = "Inport a OutDataTypeStr=int32; Inport b Port=2 OutDataTypeStr=boolean; \
     Inport c Port=3 OutDataTypeStr=boolean; \
     SubSystem s {; TriggerPort t TriggerType=falling; EnablePort e StatesWhenEnabling=reset; Inport x; Outport y; \
@@ -70,7 +70,7 @@ const PLACES: &[(&str, u32, u32, Option<u32>, &[u32])] = &[
     (CROSSED, 4, 22, Some(1), &[2]),
     (CROSSED, 5, 27, Some(1), &[3]),
     (CROSSED, 6, 46, None, &[5]),
-    // The enable stands before the trigger, whatever order their ports and lines have.
+    // The enable is before the trigger, whatever order their ports and lines have.
     (CONTROLLED, 3, 20, None, &[1, 2]),
     (CONTROLLED, 6, 34, Some(3), &[0]),
     (CONTROLLED, 8, 50, None, &[7]),
@@ -116,7 +116,7 @@ fn fraction(number: Decimal) -> (i128, u128) {
     (number.num, number.den)
 }
 
-/// The same of a kind that is told so.
+/// The same of a kind that is reported so.
 fn plain(kind: Kind) -> Option<PlainKind> {
     match kind {
         Kind::SubSystem(control) => Some(PlainKind::SubSystem(control)),

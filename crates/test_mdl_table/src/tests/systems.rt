@@ -2,8 +2,8 @@ use super::answer;
 use std::test::Fail;
 use test_models::in_root;
 
-// The lesser number comes first, and then the lesser line, in whatever system it stands: the blocks of a subsystem begin at
-// line 11, and what is behind it at line 17 or later.
+// The lesser number comes first, and then the lesser line, in whatever system it is: the blocks of a subsystem begin at
+// line 11, and what is after it at line 17 or later.
 const SYSTEMS: &str = "Ground g; SubSystem s {; _; }; _";
 
 const REFUSALS: &[(&str, &str)] = &[

@@ -37,7 +37,7 @@ fn nodes_of_root(alloc: Global, parts: &str) -> Result<Nodes, Fail> {
     root_nodes(alloc, &resolved(alloc, parts)?)
 }
 
-// The delay, at place 2, needs nothing; the gain behind it, at place 3, is needed by both sums.
+// The delay, at place 2, needs nothing; the gain after it, at place 3, is needed by both sums.
 #[test]
 fn nodes_of_a_shared_node(rt: HostRuntime) -> Result<(), Fail> {
     let rows = [3, 4, 5, 6, 7, 8, 9, 10].map(Node::Row);

@@ -20,7 +20,7 @@ fn described(alloc: Global, times: &Times) -> Result<String, AllocError> {
     format!(in alloc; "{pairs:?} {:?} {}", times.delays, times.hyper)
 }
 
-/// The text of a model of these parts, with further lines behind its System if there are any.
+/// The text of a model of these parts, with further lines after its System if there are any.
 fn file_of(alloc: Global, parts: &str, settings: &str) -> Result<String, AllocError> {
     if settings.is_empty() {
         model_of(alloc, parts)

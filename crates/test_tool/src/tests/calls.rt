@@ -3,7 +3,7 @@ use std::test::Fail;
 use test_calls::{End, Faults, Files, NO_FAULT, NONE, called_so, models};
 use test_models::MADE;
 
-/// A command, the model, the calls that fail, how the command ends, and the text that is written, where that is told.
+/// A command, the model, the calls that fail, how the command ends, and the text that is written, where that is reported.
 type Call = (
     &'static str,
     &'static str,
@@ -63,7 +63,7 @@ const ROWS: &str =
     "compiled rows 11 systems 2 functions 3\n1045 959\n-2168 -3213\n-887 1281\n-3260 -2373\n";
 
 const CALLS: &[Call] = &[
-    // a missing model, a second read, a first write, a first put and a second put that fail
+    // a missing model, a second read, a first write, a first print and a second print that fail
     (
         "compile b.mdl a.c",
         ONE_WIRE,
@@ -178,11 +178,11 @@ const CALLS: &[Call] = &[
         (6, "write fault\n", 2),
         Some(THE_MODEL),
     ),
-    // The compiled line is put first, then the lines of all four ticks together, and then the totals.
+    // The compiled line is printed first, then the lines of all four ticks together, and then the totals.
     (GEN, "", (NONE, &[0], 4096), (7, "", 2), None),
     (GEN, "", (NONE, &[1], 4096), (7, COMPILED, 2), None),
     (GEN, "", (NONE, &[2], 4096), (7, ROWS, 2), None),
-    // a put that is cut
+    // a print that is cut
     (GEN, "", (NONE, &[1], 8), (7, "compiled", 2), None),
 ];
 

@@ -17,7 +17,7 @@ fn compiles(
     Ok(compiled(alloc, model)?.ended_with(status, text, files))
 }
 
-/// Whether the code of one wire begins as it has to, and how many calls fail for want of memory.
+/// Whether the code of one wire begins as it has to, and how many calls run out of memory.
 fn code_of_one_wire(alloc: Global) -> Result<(bool, u64), AllocError> {
     let done = compiled(alloc, models::ONE_WIRE)?;
     Ok((
@@ -41,7 +41,7 @@ fn bytes_of(model: &'static str) -> &'static [u8] {
     }
 }
 
-/// A model, the status, the text that is put, and how many files are written.
+/// A model, the status, the text that is printed, and how many files are written.
 type Row = (&'static str, u8, &'static str, usize);
 
 const MODELS: &[Row] = &[
@@ -125,7 +125,7 @@ fn large_compiles(
     compiles(alloc, &model, status, text, files)
 }
 
-/// What a model has many of and how many, the status, the text that is put, and how many files are written.
+/// What a model has many of and how many, the status, the text that is printed, and how many files are written.
 const LARGE_MODELS: &[(&str, u32, u8, &str, usize)] = &[
     (
         "crossed ports",
@@ -213,13 +213,13 @@ const NOTHING: &[&str] = &[
     "gen x 1 a b",
 ];
 
-/// Whether a command tells of the usage, and writes nothing.
+/// Whether a command reports the usage, and writes nothing.
 fn tells_usage(alloc: Global, line: &str) -> Result<bool, AllocError> {
     let told = called(alloc, line, models::ONE_WIRE, &[], &[], 4096)?;
     Ok(told.ended_with(2, USAGE, 0))
 }
 
-/// The status of a call without words, and what it puts.
+/// The status of a call without words, and what it prints.
 fn without_words(alloc: Global) -> Result<(u8, Vec<u8>), AllocError> {
     let mut host = MemHost::new(alloc, Vec::new(alloc), Vec::new(alloc), 4096);
     let mut out = MemSink::new(alloc, Vec::new(alloc), 4096);

@@ -5,10 +5,10 @@ use std::test::Fail;
 use test_calls::{Answer, Files, called_in_pieces, compiled, models};
 use test_models::model_of;
 
-/// How a command ends of which one call fails: its status, the lines that are put before the last, and how many files are written.
+/// How a command ends of which one call fails: its status, the lines printed before the last, and how many files are written.
 type Fault = (u8, &'static str, usize);
 
-/// The line that is put last where a call fails.
+/// The line that is printed last where a call fails.
 fn last_line(status: u8) -> &'static str {
     match status {
         5 => "read fault\n",
@@ -64,7 +64,7 @@ fn all_fail_so(
     Ok(whole.status == 0)
 }
 
-// Each call fails alone, of the host and of the sink. A failure of the call behind the last isn't met.
+// Each call fails alone, of the host and of the sink. A failure of the call after the last isn't met.
 fn all_fail(
     alloc: Global,
     command: (&str, Files<'_>),
@@ -79,7 +79,7 @@ fn all_fail(
 // A file is opened, read, and read to its end; one that is written is opened, and written at once.
 const COMPILE: &[Fault] = &[(5, "", 0), (5, "", 0), (5, "", 0), (6, "", 0), (6, "", 1)];
 
-// The trace is read behind the code that was written, and its lines are put before the totals.
+// The trace is read after the code that was written, and its lines are printed before the totals.
 const RUN: &[Fault] = &[
     (5, "", 0),
     (5, "", 0),
@@ -116,7 +116,7 @@ const DRIVE: &[Fault] = &[
 // Nothing is read.
 const GEN: &[Fault] = &[(6, "", 0), (6, "", 1), (6, "", 1), (6, "", 2)];
 
-// The lines that wait are put together, and then the last one.
+// The lines that wait are printed together, and then the last one.
 const PUT_ONE: &[Fault] = &[(7, "", 1)];
 
 const PUT_REPORT: &[Fault] = &[(7, "", 0)];
@@ -157,7 +157,7 @@ fn crossed(alloc: Global) -> Result<String, AllocError> {
     )
 }
 
-// Whether what is written and put are fronts of what they are where nothing fails.
+// Whether what is written and printed are fronts of what they are where nothing fails.
 fn is_front(told: &Answer, whole: &Answer) -> bool {
     let line = last_line(told.status).as_bytes();
     let before = told.text.len().saturating_sub(line.len());

@@ -10,13 +10,13 @@ const TEXT: &str =
 
 const TRACE: &[u8] = b"137\n-459\n183\n-339\n";
 
-/// What stands behind as many bytes as a text has.
+/// What is after as many bytes as a text has.
 fn behind<'a>(bytes: &'a [u8], text: &str) -> &'a [u8] {
     bytes.get(text.len()..).unwrap_or(&[])
 }
 
 /// Whether a call that makes the smallest model, over a host that has no such file, ends so; whether it writes the model and then
-/// its code; and whether that code puts by `exec` over its trace what is put of it here.
+/// its code; and whether that code prints by `exec` over its trace what is printed of it here.
 fn smallest(alloc: Global) -> Result<[bool; 3], AllocError> {
     let done = called(alloc, "gen 1 1 g.mdl g.c", b"", &[], &[], 4096)?;
     let code = behind(&done.code, MADE);

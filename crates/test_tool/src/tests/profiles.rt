@@ -3,7 +3,7 @@ use std::test::Fail;
 use test_calls::called;
 use test_models::model_of;
 
-/// Whether `profile` puts this report on a model of these parts.
+/// Whether `profile` prints this report on a model of these parts.
 fn reports(alloc: Global, parts: &str, report: &str) -> Result<bool, AllocError> {
     let model = model_of(alloc, parts)?;
     let told = called(alloc, "profile a.mdl", model.as_bytes(), &[], &[], 4096)?;

@@ -157,7 +157,7 @@ const CALLS: &[Call] = &[
         (7, "out 2 9\nout 1 4\nout 2 5\n", 1),
     ),
     (DRIVE, WHOLE, (&[8], NONE, 65_536), (0, "* calls 4\n", 1)),
-    // A put that moves three bytes, of a text that tells a fault, and of lines before it.
+    // A print that moves three bytes, of a text that reports an error, and of lines before it.
     (DRIVE, TWICE, (NONE, &[1], 3), (7, "out", 1)),
     (DRIVE, TWICE, (NONE, &[3], 3), (7, "out 2 9\n", 1)),
     (DRIVE, TWICE, (NONE, &[4], 3), (7, "out 2 9\nscr", 1)),
@@ -178,7 +178,7 @@ fn files_and_faults_of_drives(rt: HostRuntime) -> Result<(), Fail> {
     Ok(())
 }
 
-/// Scripts, and how they drive a system, whose lines end at a seam, before one and behind one, and the last has no end.
+/// Scripts, and how they drive a system, whose lines end at a seam, before one and after one, and the last has no end.
 const SCRIPTS: &[(&str, End)] = &[
     (
         "out 2 9\nout 1 4\r\nupdate 4 9\nout 2 5",

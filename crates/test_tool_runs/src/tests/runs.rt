@@ -165,7 +165,7 @@ fn executes_in_pieces(
     Ok(called(alloc, EXEC, (STORES_INPUT, trace), (NONE, NONE, piece))?.is_end(end))
 }
 
-/// Traces, and how `exec` ends over them, whose lines end at a seam, before one and behind one, and the last has no end.
+/// Traces, and how `exec` ends over them, whose lines end at a seam, before one and after one, and the last has no end.
 const PIECES: &[(&str, End)] = &[
     (
         "5\n-7\r\n2147483647",

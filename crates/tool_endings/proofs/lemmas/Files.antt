@@ -1,4 +1,4 @@
--- What is known of files that a host may tell.
+-- What is known of files that a host may report.
 use Rattle.std.proofs.Common.{◌≡◌, ◌<◌, ◌+◌, List, ℕ, length, replicate, refl, sym, subst, arith}
 use Rattle.std.proofs.lemmas.List.{length-replicate}
 use Rattle.std.specs.Prelude.{Option, Some, None, IsSomeAnd, IfSome, OnSome}
@@ -7,11 +7,11 @@ use Rattle.base_host.specs.Reading.{Source, ReadsFront}
 use Rattle.tool_endings.specs.Told.{HostTold, source_of, ReadsAlone, ReadsNone}
 use Rattle.tool_endings.specs.EndingsOfModels.{OnNamed, OnBytes}
 
--- P holds of the file of this name, if it is there and told
+-- P holds of the file of this name, if it is there and reported
 abbrev pub IfNamed : Option (List File) → Option (List ℕ) → List ℕ → (List ℕ → Type 0) → Type 0
 IfNamed files rest name P = IfSome files (λ fs. OnSome rest (IfSome (lookup name fs) P))
 
--- P holds of the files, if they are told
+-- P holds of the files, if they are reported
 abbrev pub IfTold : Option (List File) → Option (List ℕ) → (List File → Type 0) → Type 0
 IfTold files rest P = IfSome files (λ fs. OnSome rest (P fs))
 
@@ -52,7 +52,7 @@ there (Some fs) (Some xs) name h q = at_there (lookup name fs) h q
 pub named : (h : HostTold) (name : List ℕ) {P : List ℕ → Type 0} → OnBytes h name P → OnNamed h name P
 named h name {P = P} known = there h.files h.rest name known.file (λ told is. subst P (sym is) known.holds)
 
--- what is known of a file that may be told is known of some bytes, where it holds of any
+-- what is known of a file that may be reported is known of some bytes, where it holds of any
 pub some_bytes : (h : HostTold) (name : List ℕ) {P : List ℕ → Type 0} → OnNamed h name P → (other : List ℕ) → P other → OnBytes h name P
 some_bytes h name {P = P} known other holds = by h.files h.rest refl refl known
   where
@@ -76,7 +76,7 @@ some_bytes h name {P = P} known other holds = by h.files h.rest refl refl known
 pub still_alone : (name : List ℕ) (h h1 h' : HostTold) → ReadsAlone name h h1 → ReadsNone h1 h' → ReadsAlone name h h'
 still_alone name h h1 h' alone none = subst (λ (s : Source). ReadsFront h.files name (source_of h) s) (sym none) alone
 
--- a file that is longer than n bytes, where it is told
+-- a file that is longer than n bytes, where it is reported
 pub longer_than : (h : HostTold) (name : List ℕ) (n : ℕ) → OnNamed h name (λ x. n < length x) → OnBytes h name (λ x. n < length x)
 longer_than h name n long =
     some_bytes h name long (replicate (n + 1) 0) (let count = length-replicate {A = ℕ} (n + 1) 0 in
@@ -101,14 +101,14 @@ told_two None rest first second h q = tt
 told_two (Some fs) None first second h q = tt
 told_two (Some fs) (Some xs) first second h q = q fs h
 
--- what holds of all files holds of those that are told
+-- what holds of all files holds of those that are reported
 pub told_any : (files : Option (List File)) (rest : Option (List ℕ)) {Q : List File → Type 0} →
     ((fs : List File) → Q fs) → IfTold files rest Q
 told_any None rest q = tt
 told_any (Some fs) None q = tt
 told_any (Some fs) (Some xs) q = q fs
 
--- what follows of the files that are told from what is known of them
+-- what follows of the files that are reported from what is known of them
 pub told-map : (files : Option (List File)) (rest : Option (List ℕ)) {P Q : List File → Type 0} → IfTold files rest P →
     ((fs : List File) → P fs → Q fs) → IfTold files rest Q
 told-map None rest h q = tt

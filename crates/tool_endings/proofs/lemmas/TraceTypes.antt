@@ -24,7 +24,7 @@ by-port type [] (v ∷ vs) h = h
 by-port type (p ∷ ps) [] h = h
 by-port type (p ∷ ps) (v ∷ vs) h = (h.0, by-port type ps vs h.1)
 
--- each row behind some lines is one of the types
+-- each row after some lines is one of the types
 with-row : (types : List FixType) (line : ℕ) (row : Result (List ℤ) BadWhy) (rest : Trace) →
     ((values : List ℤ) → row ≡ Ok values → AllZip InType types values) →
     AllByRecursion (AllZip InType types) rest.rows → AllByRecursion (AllZip InType types) (with_row line row rest).rows

@@ -20,7 +20,7 @@ pub same_bytes : (count : ℕ) (bytes bytes' : List ℕ) (rest rest' : Source) �
 same_bytes count bytes bytes' rest rest' more none =
     more.bytes ∙ ap (λ p. bytes ++ p) (no_bytes more.piece (more.size ∙ none)) ∙ append-nil bytes
 
--- what is left of a file, where it is told
+-- what is left of a file, where it is reported
 abbrev pub left_of : Option (List ℕ) → List ℕ
 left_of None = []
 left_of (Some xs) = xs

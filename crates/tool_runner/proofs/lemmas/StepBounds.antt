@@ -181,7 +181,7 @@ arguments-grows functions leaf line (t ∷ types) (more_exprs e es) n all most =
 
 -- ---- Statements
 
--- an execution from a count of steps makes no more calls than it takes steps, but for so many
+-- an execution from a count of steps makes no more calls than it takes steps, except for so many
 record Took (n extra : ℕ) (a : After) : Type 0 where
   calls : n + length a.log ≤ a.steps + extra
   more : n ≤ a.steps

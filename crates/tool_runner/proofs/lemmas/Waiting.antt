@@ -1,4 +1,4 @@
--- Texts that are put or wait, one behind another.
+-- Texts that are printed or wait, one after another.
 use Rattle.std.proofs.Common.{◌≡◌, refl, sym, ◌∙◌, ap, ℕ, ◌+◌, List, [], ◌++◌, length, take, append_assoc, arith}
 use Rattle.std.specs.Prelude.{Option, None, Some, Result, Ok, Err, OnOk, OnErr, min, true, false, is_err}
 use Rattle.std.specs.Io.KnownBytes.{append_known}
@@ -7,7 +7,7 @@ use Rattle.std.proofs.Math.Seq.{take-append-add}
 use Rattle.base_host.specs.Files.{PutsFront}
 use Rattle.base_host.specs.Buffers.{PutsAllBut}
 
--- ---- What is put and what waits
+-- ---- What is printed and what waits
 
 append_known-twice : (k : Option (List ℕ)) (a b : List ℕ) → append_known (append_known k a) b ≡ append_known k (a ++ b)
 append_known-twice None a b = refl
@@ -47,7 +47,7 @@ front_of_more w w' text more b b' b'' first second =
           ∙ ap (append_known b) (sym (ap (take (length first.gone + second.0)) whole ∙ take-append-add first.gone (w' ++ more) second.0)),
     )
 
--- what waited was put
+-- what waited was printed
 pub flushed : (w w' w'' text : List ℕ) (b b' b'' : Option (List ℕ)) → PutsAllBut w' (w ++ text) b b' →
     b'' ≡ append_known b' w' → w'' ≡ [] → PutsAllBut w'' (w ++ text) b b''
 flushed w w' w'' text b b' b'' first put none = record {
@@ -56,7 +56,7 @@ flushed w w' w'' text b b' b'' first put none = record {
   put = put ∙ ap (λ k. append_known k w') first.put ∙ append_known-twice b first.gone w';
 }
 
--- a front of what waited was put
+-- a front of what waited was printed
 pub cut : (w w' text : List ℕ) (b b' b'' : Option (List ℕ)) → PutsAllBut w' (w ++ text) b b' → PutsFront b' b'' w' →
     PutsFront b b'' (w ++ text)
 cut w w' text b b' b'' first front = (
@@ -65,7 +65,7 @@ cut w w' text b b' b'' first front = (
       ∙ ap (append_known b) (sym (ap (take (length first.gone + front.0)) first.parts ∙ take-append-add first.gone w' front.0)),
 )
 
--- where nothing waits, the text was put
+-- where nothing waits, the text was printed
 pub all_put : (w w' text : List ℕ) (b b' : Option (List ℕ)) → w ≡ [] → w' ≡ [] → PutsAllBut w' (w ++ text) b b' → b' ≡ append_known b text
 all_put w w' text b b' none none' puts =
     puts.put

@@ -1,4 +1,4 @@
--- Pieces of a script, one behind another.
+-- Pieces of a script, one after another.
 use Rattle.std.proofs.Common.{◌≡◌, refl, sym, ◌∙◌, ap, ℕ, ◌+◌, Bool, true, false, List, [], ◌∷◌, ◌++◌, length, append_assoc, arith, ◌==◌}
 use Rattle.std.specs.Prelude.{Result, Ok, Err, None, Some, if◌then◌else◌}
 use Rattle.std.specs.List.{AllByRecursion}
@@ -25,7 +25,7 @@ none_written counts all count =
       whole = λ behind. ap (λ n. with_calls [] (whole_calls_after n counts all behind)) same;
     }
 
--- a text behind another writes its calls behind the other's
+-- a text after another writes its calls after the other's
 pub both_written : (text more counts : List ℕ) (all count : ℕ) (calls others : List Call) → WritesCalls text counts all count calls →
     WritesCalls more counts all (count + length calls) others → WritesCalls (text ++ more) counts all count (calls ++ others)
 both_written text more counts all count calls others first second =

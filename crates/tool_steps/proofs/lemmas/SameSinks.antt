@@ -1,4 +1,4 @@
--- A sink is what it tells.
+-- A sink is what it reports.
 use Rattle.std.proofs.Common.{◌≡◌}
 use Rattle.tool_endings.specs.Told.{SinkTold}
 

@@ -1,4 +1,4 @@
--- Where a call ended with a fault of reading, its host was not sure of a file that it reads.
+-- Where a call ended with an error of reading, its host was not sure of a file that it reads.
 use Rattle.std.proofs.Common.{◌≡◌, ℕ, inr, List, sym, subst}
 use Rattle.std.specs.Prelude.{Bool, false, Option, Some, IsSomeAnd}
 use Rattle.base_host.specs.Files.{File}
@@ -7,12 +7,12 @@ use Rattle.tool_endings.specs.declared.ending.Ending.TheVariants.{ReadFault}
 use Rattle.tool_words.specs.Words.{Asked}
 use Rattle.tool_endings.specs.Completeness.{IfReadFault, IsUnsureOf, BecomesUnsureOf, second_file}
 
--- what follows from a fault of reading
+-- what follows from an error of reading
 pub if_fault : (e : Ending) {P Q : Type 0} → (P → Q) → IfReadFault e P → IfReadFault e Q
 if_fault ReadFault f h = f h
 if_fault _ f h = tt
 
--- a fault of reading the second file, as the host became with its files
+-- an error of reading the second file, as the host became with its files
 pub unsure_second : {H : Type 0} (files : H → Option (List File)) (sure : H → List ℕ → Bool) (h later : H) (e : Ending)
     (a : Asked) (name : List ℕ) → second_file a ≡ Some name → files later ≡ files h →
     IfReadFault e (sure later name ≡ false) → IfReadFault e (IsUnsureOf files sure h a)

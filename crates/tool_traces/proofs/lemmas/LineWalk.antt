@@ -90,7 +90,7 @@ first_kept text behind part =
       has = refl;
     }
 
--- a line with its end stands at these places, whatever follows
+-- a line with its end is at these places, whatever follows
 pub record StandsAt (bytes : List ℕ) (from start end after : ℕ) : Type 0 where
   pub goes_on : from < after
   pub within : after ≤ length bytes

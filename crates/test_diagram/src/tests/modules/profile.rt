@@ -24,7 +24,7 @@ fn functions_of_outputs(rt: HostRuntime) -> Result<(), Fail> {
     // each output needs an input of its own
     let crossed = [function(1, 1), function(2, 2)];
     are_functions(rt.alloc(), &[1, 2], &crossed)?;
-    // two outputs need the input, and one behind a delay needs none
+    // two outputs need the input, and one after a delay needs none
     let delayed = [function(1, 3), function(0, 4)];
     are_functions(rt.alloc(), &[1, 1, 0], &delayed)?;
     // an enable and a trigger besides the input

@@ -1,7 +1,7 @@
 use super::are_told;
 use std::test::Fail;
 
-// Blocks and lines that aren't read, in the root and in a subsystem, and parameters out of form, which come behind them.
+// Blocks and lines that aren't read, in the root and in a subsystem, and parameters out of form, which come after them.
 const BLOCKS: &[(&str, &str)] = &[
     (
         "Block { / BlockType SubSystem / Name s / System { / Block { / BlockType Inport / Name x / } / } / } / Block { / BlockType Ground / Name g / }",

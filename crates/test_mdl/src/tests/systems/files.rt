@@ -16,7 +16,7 @@ const FILES: &[(&str, &str)] = &[
         "Model {\n}\nModel {\nSystem {\n}\n}\n",
         "refused F3 NoModel line 1\n",
     ),
-    // What stands in another section is no model and no library.
+    // What is in another section is no model and no library.
     (
         "Data {\nModel {\nSystem {\n}\n}\n}\n",
         "refused F3 NoModel line 0\n",
@@ -36,7 +36,7 @@ const FILES: &[(&str, &str)] = &[
     ),
 ];
 
-/// A library behind a model of 33 subsystems, each inside the one before, at line 203.
+/// A library after a model of 33 subsystems, each inside the one before, at line 203.
 fn library_behind(alloc: Global) -> Result<String, Fail> {
     let mut file = model_text(alloc, "33 * SubSystem s {; 33 * }")?;
     file.push_str("Library {\n}\n")?;

@@ -26,7 +26,7 @@ const NUMBERS: &[(&str, &str)] = &[
         "20001 * Inport i",
         "refused F6 TooMany line 80003 Blocks 20001\n",
     ),
-    // The blocks inside a subsystem count too: the first too many is behind it, four lines and two lower.
+    // The blocks inside a subsystem count too: the first too many is after it, four lines and two lower.
     ("SubSystem s {; 19999 * Ground g; }", "read\n"),
     (
         "SubSystem s {; 19999 * Ground g; }; Ground h",
@@ -53,7 +53,7 @@ const NUMBERS: &[(&str, &str)] = &[
         "SubSystem s {; 33 * Inport i; 34 * Outport o; }",
         "refused F6 TooMany line 3 Inports 33\n",
     ),
-    // The crowd at the lesser line is told, and before a block that isn't read.
+    // The crowd at the lesser line is reported, and before a block that isn't read.
     (
         "Scope z; SubSystem s {; 33 * Inport i; }",
         "refused F6 TooMany line 7 Inports 33\n",

@@ -6,11 +6,11 @@ use std::fmt::Write;
 use std::test::Fail;
 use test_models::model_of;
 
-/// A subsystem with an Inport, behind it a Ground.
+/// A subsystem with an Inport, after it a Ground.
 const NESTED: &str =
     "Block { / BlockType SubSystem / Name s / System { / Block { / BlockType Inport / Name x / } / } / } / Block { / BlockType Ground / Name g / }";
 
-/// A Ground, a subsystem of an Inport and a subsystem of a Ground, and behind it an empty subsystem.
+/// A Ground, a subsystem of an Inport and a subsystem of a Ground, and after it an empty subsystem.
 const LINES: &str = "Block { / BlockType Ground / Name a / } / \
     Block { / BlockType SubSystem / Name s / System { / Block { / BlockType Inport / Name x / } / \
     Block { / BlockType SubSystem / Name t / System { / Block { / BlockType Ground / Name b / } / } / } / } / } / \
@@ -49,7 +49,7 @@ fn systems_told(alloc: Global, root: &SystemText) -> Result<String, Fail> {
     Ok(format!(in alloc; "{root:?} {first:?} {inner:?} {last:?}")?)
 }
 
-/// What is told of the blocks or the systems of a model of these parts.
+/// What is reported of the blocks or the systems of a model of these parts.
 fn told_in(alloc: Global, parts: &str, what: &str) -> Result<String, Fail> {
     let text = model_of(alloc, parts)?;
     let file = read_mdl(alloc, text.as_bytes())?;
@@ -72,7 +72,7 @@ fn blocks_and_systems(rt: HostRuntime) -> Result<(), Fail> {
             "blocks",
             "None a 3; None s 7; Some(1) x 11; Some(1) t 15; Some(3) b 19; None u 27; ",
         ),
-        // Each system has its row, its line and its own blocks, and stands inside the one around it.
+        // Each system has its row, its line and its own blocks, and is inside the one around it.
         (
             LINES,
             "systems",

@@ -79,7 +79,7 @@ const BLOCK: Shape = Shape::Plain {
     output: true,
 };
 
-// A block behind those of the sum: of one name or one port with another, which is of one side alone.
+// A block after those of the sum: of one name or one port with another, which is of one side alone.
 #[test]
 fn names_and_ports_of_blocks(rt: HostRuntime) -> Result<(), Fail> {
     let [a, b, p, y] = sum();

@@ -5,7 +5,7 @@ use std::alloc::Global;
 use std::test::Fail;
 use test_models::{is_told, system_of};
 
-/// What is told of a refusal that may be there.
+/// What is reported of a refusal that may be there.
 fn told(alloc: Global, found: Option<&Refusal>) -> Result<Vec<u8>, Fail> {
     match found {
         Some(refusal) => Ok(refusal_text(alloc, refusal)?),
@@ -13,7 +13,7 @@ fn told(alloc: Global, found: Option<&Refusal>) -> Result<Vec<u8>, Fail> {
     }
 }
 
-/// Fails where what is told of two refusals isn't what is expected.
+/// Fails where what is reported of two refusals isn't what is expected.
 fn is_first(alloc: Global, one: Refusal, other: Refusal, expected: &str) -> Result<(), Fail> {
     let first = told(alloc, first_refusal(Some(one), Some(other)).as_ref())?;
     is_told(&first, expected, "two")
@@ -28,7 +28,7 @@ fn the_first_of_two_refusals(rt: HostRuntime) -> Result<(), Fail> {
     is_first(rt.alloc(), later, sooner, "refused F11 NoPort line 6\n")
 }
 
-/// What is told of the first line in the newer form.
+/// What is reported of the first line in the newer form.
 fn newer_in(alloc: Global, lines: &str) -> Result<Vec<u8>, Fail> {
     let text = system_of(alloc, lines)?;
     let file = read_mdl(alloc, text.as_bytes())?;

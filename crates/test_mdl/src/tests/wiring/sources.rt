@@ -45,7 +45,7 @@ const CONTROLLING: &str =
     "s 2 > y 1; Line { / SrcBlock a / SrcPort 1 / Branch { / DstBlock s / DstPort trigger / } / \
     Branch { / Branch { / DstBlock s / DstPort enable / } / DstBlock s / DstPort 1 / } / }";
 
-/// The same of a subsystem, whose controls stand behind the input, first the enable, and of what reads it.
+/// The same of a subsystem, whose controls are after the input, first the enable, and of what reads it.
 const READ_BY_A_SUBSYSTEM: &[(usize, &[Source])] = &[(1, &[A, A, A]), (2, &[S2])];
 
 /// What a block reads where lines lead between these.

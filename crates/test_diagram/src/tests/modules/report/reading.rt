@@ -10,7 +10,7 @@ const CROSSED: &str = "system top inputs 1 outputs 1 functions 1\nout 1 needs 1 
     system s1 inputs 2 outputs 2 functions 2\nout 1 needs 1 outputs 1\nout 2 needs 2 outputs 2\n\
     differ 1 2 by 1\nsystems 2\n";
 
-/// A text, how many systems it tells of, and what is read of the last: its row, its inputs, outputs and controls, its
+/// A text, how many systems it describes, and what is read of the last: its row, its inputs, outputs and controls, its
 /// functions, and its certificate.
 struct ReadSystem {
     text: &'static str,
@@ -136,7 +136,7 @@ fn systems_read(rt: HostRuntime) -> Result<(), Fail> {
     Ok(())
 }
 
-/// Texts, with the line of the fault of form, or 0 where the text is one of reports.
+/// Texts, with the line of the error of form, or 0 where the text is one of reports.
 const FAULTS: &[(&str, u32)] = &[
     // A whole report, and one that is cut in line 2.
     (CROSSED, 0),
@@ -237,7 +237,7 @@ const FAULTS: &[(&str, u32)] = &[
     ),
 ];
 
-/// The line of the fault of form, 0 where the text is one of reports.
+/// The line of the error of form, 0 where the text is one of reports.
 fn fault_line(alloc: Global, text: &str) -> Result<u32, Memory> {
     match read_report(alloc, text.as_bytes()) {
         Ok(_) => Ok(0),
