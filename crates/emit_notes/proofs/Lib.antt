@@ -1,3 +1,4 @@
+pub mod lemmas
 mod NameLemmas
 mod NoteLaws
 mod RowLaws

@@ -52,7 +52,14 @@ as-compiled c m bytes P from starts run =
 abbrev whole-of : (c : Compilation) (code bytes : List ℕ) (h h' : HostTold) → IsCompiledFrom bytes c →
     h'.written ≡ add_file h.written code c.code → WritesWhole code bytes h h'
 whole-of c code bytes h h' from written =
-    record { resolved = from.resolved; verdict = from.verdict; compilation = c; right = from.compiled; written = written }
+    record {
+      resolved = from.resolved;
+      verdict = from.verdict;
+      compilation = c;
+      right = from.compiled;
+      noted = from.noted;
+      written = written;
+    }
 
 model-found : (e : Ending) (model code trace : List ℕ) (c : Compilation) (m : MachineState) (h h1 h' : HostTold)
     (b b' : SinkTold) → WritesCompiled c model code h h1 → StartsFrom c.code m → h'.written ≡ h1.written →
@@ -167,5 +174,5 @@ run_unstarted agree NoMemory model code trace c h h1 b w none = run_forgets mode
 run_unstarted agree (CodeRefused fault) model code trace c h h1 b w none =
     absurd (agree.apart c.code w.model.holds.compiled.code.program fault w.model.holds.compiled.code.reads none)
 run_unstarted agree (IsStuck at) model code trace c h h1 b w none =
-    absurd (starts-right c w.model.bytes w.model.holds none.0 at none.2.0 none.1 none.2.1)
+    absurd (starts-right w.model.holds.resolved c w.model.holds.compiled none.0 at none.2.0 none.1 none.2.1)
 run_unstarted agree _ model code trace c h h1 b w none = absurd none

@@ -6,6 +6,8 @@ use Rattle.base_host.specs.Faults.{Rose}
 use Rattle.base_host.specs.Files.{File, OnFile, add_file, WritesFront}
 use Rattle.base_host.specs.Reading.{RoseBy, Source}
 use Rattle.diagram_meaning.specs.ResolvedTable.{ResolvedTable}
+use Rattle.emit_notes.specs.declared.labels.Labels.{Labels}
+use Rattle.emit_notes.proofs.lemmas.NotedTexts.{notes-of}
 use Rattle.tool_compiled.specs.Compilation.{Compilation, IsCompiledFrom}
 use Rattle.tool_endings.specs.declared.ending.Ending.{Ending}
 use Rattle.tool_endings.specs.declared.ending.Ending.TheVariants.{WriteFault, NoMemory}
@@ -25,7 +27,7 @@ no-faults h h1 h' a b = record { read = b.read ∙ a.read; write = b.write ∙ a
 
 -- ---- Accepting a model, and then writing its code
 
-module _ (r : ResolvedTable) (model code : List ℕ) (h h1 h' : HostTold) (accepts : AcceptsFile r model h h1) where
+module _ (r : ResolvedTable) (labels : Labels) (model code : List ℕ) (h h1 h' : HostTold) (accepts : AcceptsFile r labels model h h1) where
   pub left-to-read : ReadsNone h1 h' → OnNamed h model (λ _. h'.rest ≡ Some [])
   left-to-read none = still-read h.files h.rest model h1.rest h'.rest accepts.told (ap (λ (s : Source). s.rest) none)
 
@@ -34,12 +36,17 @@ module _ (r : ResolvedTable) (model code : List ℕ) (h h1 h' : HostTold) (accep
   still-given none = subst (λ (s : Source). RoseBy (length accepts.model.bytes) h.given s.given) (sym none) accepts.given
 
   -- its code was written whole
-  pub compiled-file : (c : Compilation) → WritesCodeOf r c code h1 h' → WritesCompiled c model code h h'
+  pub compiled-file : (c : Compilation) → WritesCodeOf r labels c code h1 h' → WritesCompiled c model code h h'
   compiled-file c writes = record {
     model = record {
       bytes = accepts.model.bytes;
       file = accepts.model.file;
-      holds = record { resolved = r; verdict = accepts.model.holds; compiled = writes.right };
+      holds = record {
+        resolved = r;
+        verdict = accepts.model.holds.verdict;
+        compiled = writes.right;
+        noted = notes-of accepts.model.bytes c.code labels accepts.model.holds.labelled writes.noted;
+      };
     };
     written = writes.written ∙ ap (λ (fs : Option (List File)). add_file fs code c.code) accepts.left.written;
     files = writes.files ∙ accepts.files;
@@ -50,7 +57,7 @@ module _ (r : ResolvedTable) (model code : List ℕ) (h h1 h' : HostTold) (accep
   }
 
   -- a front of it was
-  pub front-file : CutsCodeOf r code h1 h' → EndsWriteFault model code h h'
+  pub front-file : CutsCodeOf r labels code h1 h' → EndsWriteFault model code h h'
   front-file cuts = record {
     rose = subst (λ (n : ℕ). Rose n h'.write_faults) accepts.left.no_fault.write cuts.rose;
     model = record {
@@ -58,7 +65,12 @@ module _ (r : ResolvedTable) (model code : List ℕ) (h h1 h' : HostTold) (accep
       file = accepts.model.file;
       holds = (
         cuts.compilation,
-        record { resolved = r; verdict = accepts.model.holds; compiled = cuts.right },
+        record {
+          resolved = r;
+          verdict = accepts.model.holds.verdict;
+          compiled = cuts.right;
+          noted = notes-of accepts.model.bytes cuts.compilation.code labels accepts.model.holds.labelled cuts.noted;
+        },
         subst (λ (fs : Option (List File)). WritesFront fs h'.written code cuts.compilation.code) accepts.left.written cuts.front,
       );
     };
@@ -73,7 +85,7 @@ module _ (r : ResolvedTable) (model code : List ℕ) (h h1 h' : HostTold) (accep
   }
 
   -- or it wasn't
-  pub not-written : (e : Ending) → NotWritten e r code h1 h' → NotCompiled e model code h h'
+  pub not-written : (e : Ending) → NotWritten e r labels code h1 h' → NotCompiled e model code h h'
   not-written WriteFault ends = front-file ends
   not-written NoMemory ends = forgets-writing ends
   not-written _ ends = absurd ends
@@ -88,4 +100,4 @@ front-of code model h h' c from written =
 
 pub whole-front : (code model : List ℕ) (h h' : HostTold) → WritesWhole code model h h' → WritesCodeFront code model h h'
 whole-front code model h h' w =
-    front-of code model h h' w.compilation (record { resolved = w.resolved; verdict = w.verdict; compiled = w.right }) w.written
+    front-of code model h h' w.compilation (record { resolved = w.resolved; verdict = w.verdict; compiled = w.right; noted = w.noted }) w.written

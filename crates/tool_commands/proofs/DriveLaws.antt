@@ -8,6 +8,8 @@ use Rattle.base_host.specs.Reading.{RoseBy}
 use Rattle.diagram_meaning.specs.ResolvedTable.{ResolvedTable}
 use Rattle.modules_profile.specs.Systems.{systems}
 use Rattle.c_rules.specs.Reading.{CText}
+use Rattle.emit_notes.specs.declared.labels.Labels.{Labels}
+use Rattle.emit_notes.proofs.lemmas.NotedTexts.{notes-of}
 use Rattle.tool_compiled.specs.Compilation.{Compilation}
 use Rattle.tool_driver.specs.Driven.{Driven, StandsFor}
 use Rattle.tool_driver.specs.States.{DriverState}
@@ -30,30 +32,30 @@ use Rattle.tool_commands.proofs.DrivenSystems.{driven-of}
 
 -- ---- The code isn't written whole
 
-module _ (r : ResolvedTable) (model code word script : List ℕ) (h h1 h' : HostTold)
-    (accepts : AcceptsFile r model h h1) (b : SinkTold) where
-  pub drive_unwritten : (e : Ending) → NotWritten e r code h1 h' → Ends e (Some (Drive model code word script)) h h' b b
-  drive_unwritten WriteFault ends = record { finds = (front-file r model code h h1 h' accepts ends, refl); counts = refl }
-  drive_unwritten NoMemory ends = record { finds = (forgets-writing r model code h h1 h' accepts ends, refl); counts = refl }
+module _ (r : ResolvedTable) (labels : Labels) (model code word script : List ℕ) (h h1 h' : HostTold)
+    (accepts : AcceptsFile r labels model h h1) (b : SinkTold) where
+  pub drive_unwritten : (e : Ending) → NotWritten e r labels code h1 h' → Ends e (Some (Drive model code word script)) h h' b b
+  drive_unwritten WriteFault ends = record { finds = (front-file r labels model code h h1 h' accepts ends, refl); counts = refl }
+  drive_unwritten NoMemory ends = record { finds = (forgets-writing r labels model code h h1 h' accepts ends, refl); counts = refl }
   drive_unwritten _ ends = absurd ends
 
 -- ---- After the writing of the code
 
-module _ (r : ResolvedTable) (c : Compilation) (s : Option ℕ) (model code word script : List ℕ) (h h1 h2 : HostTold)
-    (accepts : AcceptsFile r model h h1) (named : system_named r.table.rows word ≡ Some s) (there : Contains (systems r.table.rows) s)
-    (writes : WritesCodeOf r c code h1 h2) where
+module _ (r : ResolvedTable) (labels : Labels) (c : Compilation) (s : Option ℕ) (model code word script : List ℕ) (h h1 h2 : HostTold)
+    (accepts : AcceptsFile r labels model h h1) (named : system_named r.table.rows word ≡ Some s) (there : Contains (systems r.table.rows) s)
+    (writes : WritesCodeOf r labels c code h1 h2) where
   -- what is driven
   abbrev system : Driven
-  system = driven-of r c s writes.right there accepts.model.holds.no_loop
+  system = driven-of r c s writes.right there accepts.model.holds.verdict.no_loop
 
   calm : NoFault h h2
   calm = no-faults h h1 h2 accepts.left.no_fault writes.no_fault
 
   told : OnNamed h model (λ _. h2.rest ≡ Some [])
-  told = left-to-read r model code h h1 h2 accepts writes.unread
+  told = left-to-read r labels model code h h1 h2 accepts writes.unread
 
   given : RoseBy (length accepts.model.bytes) h.given h2.given
-  given = still-given r model code h h1 h2 accepts writes.unread
+  given = still-given r labels model code h h1 h2 accepts writes.unread
 
   files : h2.files ≡ h.files
   files = writes.files ∙ accepts.files
@@ -61,9 +63,10 @@ module _ (r : ResolvedTable) (c : Compilation) (s : Option ℕ) (model code word
   abbrev whole : (h' : HostTold) → h'.written ≡ h2.written → WritesWhole code accepts.model.bytes h h'
   whole h' same = record {
     resolved = r;
-    verdict = accepts.model.holds;
+    verdict = accepts.model.holds.verdict;
     compilation = c;
     right = writes.right;
+    noted = notes-of accepts.model.bytes c.code labels accepts.model.holds.labelled writes.noted;
     written = same ∙ writes.written ∙ ap (λ (fs : Option (List File)). add_file fs code c.code) accepts.left.written;
   }
 

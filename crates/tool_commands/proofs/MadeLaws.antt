@@ -45,7 +45,14 @@ unmade_written c start size model code h h' from rose front =
 
 module _ (c : Compilation) (start size : ℕ) (model code : List ℕ) (h h' : HostTold) (w : WritesMade c start size model code h h') where
   abbrev both-of : WritesBoth start size model code h h'
-  both-of = record { resolved = w.from.resolved; verdict = w.from.verdict; compilation = c; right = w.from.compiled; written = w.written }
+  both-of = record {
+    resolved = w.from.resolved;
+    verdict = w.from.verdict;
+    compilation = c;
+    right = w.from.compiled;
+    noted = w.from.noted;
+    written = w.written;
+  }
 
   -- no line of the trace that is made is bad for the inputs of the model
   never-bad : GeneratedTracesAreRows → (line : BadLine) (p : ProgramTree) (b b' : SinkTold) →
@@ -77,7 +84,7 @@ module _ (c : Compilation) (start size : ℕ) (model code : List ℕ) (h h' : Ho
     made_unstarted agree NoMemory none = made_forgets
     made_unstarted agree (CodeRefused fault) none =
         absurd (agree.apart c.code w.from.compiled.code.program fault w.from.compiled.code.reads none)
-    made_unstarted agree (IsStuck at) none = absurd (starts-right c (model_text start size) w.from none.0 at none.2.0 none.1 none.2.1)
+    made_unstarted agree (IsStuck at) none = absurd (starts-right w.from.resolved c w.from.compiled none.0 at none.2.0 none.1 none.2.1)
     made_unstarted agree _ none = absurd none
 
     -- what the machine gives after the line is what the program gives

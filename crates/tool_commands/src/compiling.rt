@@ -25,11 +25,11 @@ pub fn write_code<H: Host>(
 ) -> Result<Compiled, Ending>
     requires { HasNoLoop (needs_of (diagram_of r.now)) }
     ensures written { let at = told H.files H.rest H.given H.written H.sure H.read_faults H.write_faults in
-        IfOk result (λ c. WritesCodeOf (table_of_tree r.now) c code.now (at host.old)
+        IfOk result (λ c. WritesCodeOf (table_of_tree r.now) labels.now c code.now (at host.old)
         (at host.new)) }
     ensures ended { let at = told H.files H.rest H.given H.written H.sure H.read_faults H.write_faults in
-        IfErr result (λ ending. NotWritten ending (table_of_tree r.now) code.now (at host.old)
-        (at host.new)) }
+        IfErr result (λ ending. NotWritten ending (table_of_tree r.now) labels.now code.now
+        (at host.old) (at host.new)) }
 {
     let compiled = match compiled_from(alloc, r, labels) {
         Ok(compiled) => compiled,

@@ -7,6 +7,7 @@ use Rattle.diagram_meaning.specs.Inputs.{input_ports}
 use Rattle.modules_profile.specs.Systems.{systems}
 use Rattle.diagram_meaning.specs.Traces.{input_type_of}
 use Rattle.emit_pruned.specs.Calls.{NoneIdle}
+use Rattle.emit_notes.specs.ModelNotes.{HasNotesOf}
 use Rattle.right_claim.specs.Right.{IsRightFor, IsFunctionCount}
 use Rattle.diagram_verdict.specs.Verdict.{Accepted, HasVerdict}
 
@@ -33,8 +34,10 @@ pub record IsCompilationOf (r : ResolvedTable) (c : Compilation) : Type 0 where
   pub code : IsRightFor c.code r
   pub none_idle : NoneIdle code.program
 
--- the file is accepted, and compiled with the resolved table of its model
+-- the file is accepted, and compiled with the resolved table of its model; the notes in the code are
+-- those of its blocks
 pub record IsCompiledFrom (bytes : List ℕ) (c : Compilation) : Type 0 where
   pub resolved : ResolvedTable
   pub verdict : HasVerdict bytes (Accepted resolved)
   pub compiled : IsCompilationOf resolved c
+  pub noted : HasNotesOf bytes c.code

@@ -1,7 +1,6 @@
 ghost use Rattle.std.specs.Prelude.{IfOk, IfErr};
 ghost use Rattle.diagram_verdict.specs.Faults.{IsFaultOf};
 ghost use Rattle.tool_compiled.specs.Compilation.{IsCompiledFrom};
-ghost use Rattle.emit_notes.specs.ModelNotes.{HasNotesOf};
 
 use crate::code::compiled_from;
 use diagram_verdict::{ModelFault, accept_model};
@@ -17,7 +16,6 @@ use tool_compiled::Compiled;
 pub fn compile(alloc: Global, bytes: &[u8]) -> Result<Compiled, ModelFault>
     ensures compiled { IfOk result (IsCompiledFrom bytes.now) }
     ensures refused { IfErr result (IsFaultOf bytes.now) }
-    ensures noted { IfOk result (λ c. HasNotesOf bytes.now c.code) }
 {
     let resolved = accept_model(alloc, bytes)?;
     let labels = labels_of(alloc, bytes)?;

@@ -38,10 +38,11 @@ module _ (word script code model : List ℕ) (s : ℕ) (h h' : HostTold) (b b' :
     last-is : last_script_line taken end ≡ last_script_line (totals_of all.answers) (script_end (shape_of w.driven) lines)
     last-is = ap (λ (t : Totals). last_script_line t end) all.totals ∙ ap (last_script_line (totals_of all.answers)) (sym ends)
 
-    right-code : DrivesRightCode w.whole.resolved w.driven.system lines code h h' b b'
+    right-code : DrivesRightCode w.whole.resolved w.driven.system model lines code h h' b b'
     right-code = record {
       compilation = w.whole.compilation;
       right = w.whole.right;
+      noted = w.whole.noted;
       written = w.whole.written;
       driven = w.driven;
       of_model = w.of_model;
@@ -56,7 +57,7 @@ module _ (word script code model : List ℕ) (s : ℕ) (h h' : HostTold) (b b' :
     }
 
     -- up to the script's end, whatever the shape of the system is said to be
-    to-end : ShapesAreOne → s ≡ status_at end → DrivesSystem w.whole.resolved w.driven.system lines s code h h' b b'
+    to-end : ShapesAreOne → s ≡ status_at end → DrivesSystem w.whole.resolved w.driven.system model lines s code h h' b b'
     to-end shapes is =
         let r = w.whole.resolved in
         let system = w.driven.system in
@@ -69,17 +70,17 @@ module _ (word script code model : List ℕ) (s : ℕ) (h h' : HostTold) (b b' :
 
   -- what is shown of the table that was compiled, and of the system that the word names in it, holds of its verdict's
   for-named : OneVerdict → (r : ResolvedTable) → HasVerdict model (Accepted r) → (system : Option (Option ℕ)) →
-      system_named r.table.rows word ≡ system → DrivesNamed r system script s code h h' b b' → Drives model word script s code h h' b b'
+      system_named r.table.rows word ≡ system → DrivesNamed r system model script s code h h' b b' → Drives model word script s code h h' b b'
   for-named one r verdict system is shown = record {
     accepted = λ other accepts.
-        subst (λ (x : ResolvedTable). DrivesNamed x (system_named x.table.rows word) script s code h h' b b')
+        subst (λ (x : ResolvedTable). DrivesNamed x (system_named x.table.rows word) model script s code h h' b b')
         (same_resolution one model r other verdict accepts)
-        (subst (λ (x : Option (Option ℕ)). DrivesNamed r x script s code h h' b b') (sym is) shown);
+        (subst (λ (x : Option (Option ℕ)). DrivesNamed r x model script s code h h' b b') (sym is) shown);
     refused = λ refusal refuses. absurd (accepted_only one model r refusal verdict refuses);
   }
 
   for-driven : OneVerdict → (w : WritesDriven word code model h h') →
-      IfFile h script (λ lines. DrivesSystem w.whole.resolved w.driven.system lines s code h h' b b') →
+      IfFile h script (λ lines. DrivesSystem w.whole.resolved w.driven.system model lines s code h h' b b') →
       Drives model word script s code h h' b b'
   for-driven one w shown = for-named one w.whole.resolved w.whole.verdict (Some w.driven.system) w.named shown
 
@@ -92,7 +93,7 @@ module _ (word script code model : List ℕ) (s : ℕ) (h h' : HostTold) (b b' :
 
   -- ---- Running out of memory
 
-  starved : s ≡ 10 → (r : ResolvedTable) (system : Option (Option ℕ)) → DrivesNamed r system script s code h h' b b'
+  starved : s ≡ 10 → (r : ResolvedTable) (system : Option (Option ℕ)) → DrivesNamed r system model script s code h h' b b'
   starved is r None =
       (record { status = inr is; put = λ four. absurd (omega (arith, is, four)) }, λ four. absurd (omega (arith, is, four)))
   starved is r (Some system) =

@@ -54,6 +54,7 @@ module _ (start size : ℕ) (model code : List ℕ) (h h' : HostTold) (w : Write
     done = λ _. record {
       compilation = w.compilation;
       right = w.right;
+      noted = w.noted;
       written = w.written;
       outputs =
           w.right.code.code.runs.outputs (rows_in types (trace_text start size))

@@ -16,6 +16,7 @@ use Rattle.c_semantics.specs.Machine.{After, done, stuck}
 use Rattle.c_semantics.specs.Rows.{start_run}
 use Rattle.c_rules.specs.Reading.{CFaultOf}
 use Rattle.c_reading_laws.specs.Agreement.{ReadingsAgree}
+use Rattle.emit_notes.specs.ModelNotes.{HasNotesOf}
 use Rattle.tool_compiled.specs.Compilation.{Compilation, root_types, IsCompilationOf}
 use Rattle.tool_runner.specs.declared.outcome.Totals.{Totals}
 use Rattle.tool_endings.specs.declared.ending.Ending.{Ending}
@@ -52,6 +53,7 @@ compiled one rows systems functions model s code h h' b before b' is same whole 
       compilation = c;
       right = subst (λ (x : ResolvedTable). IsCompilationOf x c)
           (same_resolution one model from.resolved d from.verdict accepts) from.compiled;
+      noted = from.noted;
       written = written;
       line = rw (r, y, f) (put_alone b before b' (compiled_line rows systems functions) same whole);
     };
@@ -86,19 +88,20 @@ compile-does one _ s model code h h' b before b' ends plain is whole = absurd en
 -- ---- `run`
 
 -- a run to the end of the trace, or to its first bad line
-ran : (r : ResolvedTable) (lines : List ℕ) (s : ℕ) (code : List ℕ) (h h' : HostTold) (b before b' : SinkTold)
-    (c : Compilation) (right : IsCompilationOf r c) (bad : Option BadLine) (last : List ℕ) →
+ran : (r : ResolvedTable) (model lines : List ℕ) (s : ℕ) (code : List ℕ) (h h' : HostTold) (b before b' : SinkTold)
+    (c : Compilation) (right : IsCompilationOf r c) → HasNotesOf model c.code → (bad : Option BadLine) (last : List ℕ) →
     h'.written ≡ add_file h.written code c.code → s ≡ run_status None bad →
     bad_line (root_types (diagram_of_table r)) lines ≡ bad →
     (rows_over right.code.program (root_types (diagram_of_table r)) lines).stuck_place ≡ None →
     last ≡ last_line (rows_over right.code.program (root_types (diagram_of_table r)) lines).ticks None bad →
     PutsTicks (rows_over right.code.program (root_types (diagram_of_table r)) lines).ticks b before →
-    PutsWhole last before b' → RunsAccepted r lines s code h h' b b'
-ran r lines s code h h' b before b' c right bad last written is first free text ticks whole = record {
+    PutsWhole last before b' → RunsAccepted r model lines s code h h' b b'
+ran r model lines s code h h' b before b' c right noted bad last written is first free text ticks whole = record {
   status = inl (is ∙ ap (run_status None) (sym first));
   done = λ _. record {
     compilation = c;
     right = right;
+    noted = noted;
     written = written;
     outputs = right.code.code.runs.outputs (rows_in (root_types (diagram_of_table r)) lines) (rows-trace (diagram_of_table r) lines);
     lines = run_lines right.code.program (root_types (diagram_of_table r)) lines b before b' None bad last free first text ticks whole;
@@ -107,10 +110,10 @@ ran r lines s code h h' b before b' c right bad last written is first free text 
 
 -- of a model that was compiled, what is shown for its diagram holds of that of its verdict
 for-diagram : OneVerdict → (bytes trace : List ℕ) (s : ℕ) (code : List ℕ) (h h' : HostTold) (b b' : SinkTold)
-    (w : WritesWhole code bytes h h') → IfFile h trace (λ lines. RunsAccepted w.resolved lines s code h h' b b') →
+    (w : WritesWhole code bytes h h') → IfFile h trace (λ lines. RunsAccepted w.resolved bytes lines s code h h' b b') →
     Runs bytes trace s code h h' b b'
 for-diagram one bytes trace s code h h' b b' w shown = record {
-  accepted = λ d accepts. subst (λ (x : ResolvedTable). IfFile h trace (λ lines. RunsAccepted x lines s code h h' b b'))
+  accepted = λ d accepts. subst (λ (x : ResolvedTable). IfFile h trace (λ lines. RunsAccepted x bytes lines s code h h' b b'))
       (same_resolution one bytes w.resolved d w.verdict accepts) shown;
   refused = λ refusal refuses. absurd (accepted_only one bytes w.resolved refusal w.verdict refuses);
 }
@@ -128,14 +131,14 @@ run-does one (Ran totals) s model code trace h h' b before b' ends plain is whol
     known_file h.files h.rest model (named h model ends.model)
     (λ bytes m. for-diagram one bytes trace s code h h' b b' m.whole
     (known_file h.files h.rest trace (named h trace m.runs) (λ lines run.
-    ran m.whole.resolved lines s code h h' b before b' m.whole.compilation m.whole.right None
+    ran m.whole.resolved bytes lines s code h h' b before b' m.whole.compilation m.whole.right m.whole.noted None
     (text_of (Ran totals)) m.whole.written is run.good run.free
     (ap (λ (t : Totals). totals_line t.ticks t.steps t.calls) run.totals) run.lines whole)))
 run-does one (BadTrace line) s model code trace h h' b before b' ends plain is whole =
     known_file h.files h.rest model (named h model ends.model)
     (λ bytes m. for-diagram one bytes trace s code h h' b b' m.whole
     (known_file h.files h.rest trace (named h trace m.runs) (λ lines run.
-    ran m.whole.resolved lines s code h h' b before b' m.whole.compilation m.whole.right (Some line)
+    ran m.whole.resolved bytes lines s code h h' b before b' m.whole.compilation m.whole.right m.whole.noted (Some line)
     (text_of (BadTrace line)) m.whole.written is run.bad run.free refl run.lines whole)))
 run-does one (Refused refusal) s model code trace h h' b before b' ends plain is whole =
     known_file h.files h.rest model (named h model ends.0.model) (λ bytes v. record {

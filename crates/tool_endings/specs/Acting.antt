@@ -14,6 +14,9 @@ use Rattle.c_semantics.specs.Machine.{After, done, stuck}
 use Rattle.c_semantics.specs.Rows.{start_run}
 use Rattle.c_rules.specs.Reading.{CText, CFaultOf}
 use Rattle.c_interpreter.specs.States.{MachineState, tree_of, fields_of}
+use Rattle.emit_notes.specs.declared.labels.Labels.{Labels}
+use Rattle.emit_notes.specs.Labels.{AreLabelsOf, labels_seen}
+use Rattle.emit_notes.specs.ModelNotes.{IsNotedBy}
 use Rattle.tool_compiled.specs.Compilation.{Compilation, IsCompilationOf, IsCompiledFrom}
 use Rattle.tool_endings.specs.declared.ending.Ending.{Ending}
 use Rattle.tool_endings.specs.declared.ending.Ending.TheVariants.{Compiled, Ran, Refused, BadTrace, BadScript, CodeRefused, Stuck as IsStuck, ReadFault, WriteFault, PutFault, NoMemory}
@@ -49,9 +52,15 @@ NotCompiled e model code h h' = EndsCompile e model code h h'
 
 -- ---- Accepting a model, and writing its code
 
+-- a text is that of a model that the rules accept, with these labels
+pub record IsAcceptedText (r : ResolvedTable) (labels : Labels) (text : List ℕ) : Type 0 where
+  pub verdict : HasVerdict text (Accepted r)
+  pub labelled : AreLabelsOf text labels
+
 -- the model of this name is accepted; of what the host reports to read, nothing is left
-pub record AcceptsFile (r : ResolvedTable) (name : List ℕ) (h h' : HostTold) : Type 0 where
-  pub model : OnBytes h name (λ bytes. HasVerdict bytes (Accepted r))
+pub record AcceptsFile (r : ResolvedTable) (labels : Labels) (name : List ℕ)
+    (h h' : HostTold) : Type 0 where
+  pub model : OnBytes h name (IsAcceptedText r labels)
   pub files : h'.files ≡ h.files
   pub told : OnNamed h name (λ _. h'.rest ≡ Some [])
   pub read : ReadsAlone name h h'
@@ -65,28 +74,32 @@ NotAccepted ReadFault name h h' = EndsReadFault name h h'
 NotAccepted NoMemory name h h' = LeavesHost h h'
 NotAccepted _ name h h' = ⊥
 
--- right code for the table was written whole, and nothing read
-pub record WritesCodeOf (r : ResolvedTable) (c : Compilation) (code : List ℕ)
+-- right code for the table, with notes by these labels, was written whole, and nothing read
+pub record WritesCodeOf (r : ResolvedTable) (labels : Labels) (c : Compilation) (code : List ℕ)
     (h h' : HostTold) : Type 0 where
   pub right : IsCompilationOf r c
+  pub noted : IsNotedBy (labels_seen labels) c.code
   pub written : h'.written ≡ add_file h.written code c.code
   pub files : h'.files ≡ h.files
   pub unread : ReadsNone h h'
   pub no_fault : NoFault h h'
 
 -- a front of it was written
-pub record CutsCodeOf (r : ResolvedTable) (code : List ℕ) (h h' : HostTold) : Type 0 where
+pub record CutsCodeOf (r : ResolvedTable) (labels : Labels) (code : List ℕ)
+    (h h' : HostTold) : Type 0 where
   pub rose : Rose h.write_faults h'.write_faults
   pub unread : ReadsNone h h'
   pub compilation : Compilation
   pub right : IsCompilationOf r compilation
+  pub noted : IsNotedBy (labels_seen labels) compilation.code
   pub front : WritesFront h.written h'.written code compilation.code
 
 -- it wasn't, and the call ends
-abbrev pub NotWritten : Ending → ResolvedTable → (code : List ℕ) → HostTold → HostTold → Type 0
-NotWritten WriteFault r code h h' = CutsCodeOf r code h h'
-NotWritten NoMemory r code h h' = LeavesHost h h'
-NotWritten _ r code h h' = ⊥
+abbrev pub NotWritten : Ending → ResolvedTable → Labels → (code : List ℕ) → HostTold → HostTold →
+    Type 0
+NotWritten WriteFault r labels code h h' = CutsCodeOf r labels code h h'
+NotWritten NoMemory r labels code h h' = LeavesHost h h'
+NotWritten _ r labels code h h' = ⊥
 
 -- ---- Reading C and starting it
 

@@ -16,6 +16,7 @@ use Rattle.c_semantics.specs.Machine.{After, done, stuck}
 use Rattle.c_semantics.specs.Rows.{start_run}
 use Rattle.c_rules.specs.Reading.{CText, CFaultOf}
 use Rattle.diagram_verdict.specs.Verdict.{HasVerdict, Accepted}
+use Rattle.emit_notes.specs.ModelNotes.{HasNotesOf}
 use Rattle.tool_compiled.specs.Compilation.{Compilation, root_types, IsCompilationOf}
 use Rattle.tool_endings.specs.declared.ending.Ending.{Ending}
 use Rattle.tool_endings.specs.declared.ending.Ending.TheVariants.{Ran, Refused, BadTrace, CodeRefused, CodeTooLong, Stuck as IsStuck, ReadFault, WriteFault, PutFault, NoMemory}
@@ -41,12 +42,13 @@ pub record TakesFile (before : ℕ) (p : ProgramTree) (types : List FixType) (tr
 
 -- ---- Running the code of a model
 
--- a model was compiled, and its code written whole
+-- a model was compiled, and its code written whole, with notes of its blocks
 pub record WritesWhole (code model : List ℕ) (h h' : HostTold) : Type 0 where
   pub resolved : ResolvedTable
   pub verdict : HasVerdict model (Accepted resolved)
   pub compilation : Compilation
   pub right : IsCompilationOf resolved compilation
+  pub noted : HasNotesOf model compilation.code
   pub written : h'.written ≡ add_file h.written code compilation.code
 
 -- the model was compiled, its code written whole, and the program that it is run over the trace

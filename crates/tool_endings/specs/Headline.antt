@@ -16,6 +16,7 @@ use Rattle.c_semantics.specs.Rows.{TickRow, start_run}
 use Rattle.c_rules.specs.Reading.{CText, CFaultOf}
 use Rattle.right_claim.specs.Right.{GivesOutputs}
 use Rattle.diagram_verdict.specs.Verdict.{HasVerdict, Accepted, Refused}
+use Rattle.emit_notes.specs.ModelNotes.{HasNotesOf}
 use Rattle.tool_compiled.specs.Compilation.{Compilation, root_types, IsCompilationOf}
 use Rattle.tool_runner.specs.Texts.{ticks_text}
 use Rattle.tool_runner.specs.Runs.{totals_of}
@@ -60,27 +61,29 @@ pub record TellsRefusal (refusal : PlainRefusal) (s : ℕ) (h h' : HostTold)
 -- ---- `compile`
 
 -- Right code for the model is written as the one new file: its bytes have one reading, and that is
--- code for the diagram, in all parts. The compiled line is printed.
-pub record WritesRightCode (r : ResolvedTable) (code : List ℕ) (h h' : HostTold)
+-- code for the diagram, in all parts; its notes are those of the model's blocks. The compiled line is
+-- printed.
+pub record WritesRightCode (r : ResolvedTable) (model code : List ℕ) (h h' : HostTold)
     (b b' : SinkTold) : Type 0 where
   pub compilation : Compilation
   pub right : IsCompilationOf r compilation
+  pub noted : HasNotesOf model compilation.code
   pub written : h'.written ≡ add_file h.written code compilation.code
   pub line : b'.bytes
       ≡ append_known b.bytes
       (compiled_line compilation.rows compilation.systems compilation.functions)
 
 -- a model that the rules accept is compiled, unless memory runs out
-pub record CompilesAccepted (r : ResolvedTable) (s : ℕ) (code : List ℕ) (h h' : HostTold)
+pub record CompilesAccepted (r : ResolvedTable) (s : ℕ) (model code : List ℕ) (h h' : HostTold)
     (b b' : SinkTold) : Type 0 where
   pub status : IsDone s
-  pub done : s ≡ 0 → WritesRightCode r code h h' b b'
+  pub done : s ≡ 0 → WritesRightCode r model code h h' b b'
 
 -- what a call does with the bytes of its model
 pub record Compiles (model : List ℕ) (s : ℕ) (code : List ℕ) (h h' : HostTold)
     (b b' : SinkTold) : Type 0 where
   pub accepted : (r : ResolvedTable) → HasVerdict model (Accepted r) →
-      CompilesAccepted r s code h h' b b'
+      CompilesAccepted r s model code h h' b b'
   pub refused : (refusal : PlainRefusal) → HasVerdict model (Refused refusal) →
       TellsRefusal refusal s h h' b b'
 
@@ -101,10 +104,11 @@ run_text p types trace =
 -- Right code for the model is written as the one new file. What is printed is what its one reading
 -- gives over the trace, up to its first bad line, and those are the outputs of the diagram's one
 -- run.
-pub record RunsRightCode (r : ResolvedTable) (trace code : List ℕ) (h h' : HostTold)
+pub record RunsRightCode (r : ResolvedTable) (model trace code : List ℕ) (h h' : HostTold)
     (b b' : SinkTold) : Type 0 where
   pub compilation : Compilation
   pub right : IsCompilationOf r compilation
+  pub noted : HasNotesOf model compilation.code
   pub written : h'.written ≡ add_file h.written code compilation.code
   pub outputs : GivesOutputs right.code.program (diagram_of_table r)
       (rows_in (root_types (diagram_of_table r)) trace)
@@ -112,16 +116,16 @@ pub record RunsRightCode (r : ResolvedTable) (trace code : List ℕ) (h h' : Hos
       ≡ append_known b.bytes (run_text right.code.program (root_types (diagram_of_table r)) trace)
 
 -- the code of a model that the rules accept is run over the trace, unless memory runs out
-pub record RunsAccepted (r : ResolvedTable) (trace : List ℕ) (s : ℕ) (code : List ℕ)
+pub record RunsAccepted (r : ResolvedTable) (model trace : List ℕ) (s : ℕ) (code : List ℕ)
     (h h' : HostTold) (b b' : SinkTold) : Type 0 where
   pub status : (s ≡ run_status None (bad_line (root_types (diagram_of_table r)) trace)) ⊎ (s ≡ 10)
-  pub done : s ≢ 10 → RunsRightCode r trace code h h' b b'
+  pub done : s ≢ 10 → RunsRightCode r model trace code h h' b b'
 
 -- what a call does with the bytes of its model
 pub record Runs (model trace : List ℕ) (s : ℕ) (code : List ℕ) (h h' : HostTold)
     (b b' : SinkTold) : Type 0 where
   pub accepted : (r : ResolvedTable) → HasVerdict model (Accepted r) →
-      IfFile h trace (λ lines. RunsAccepted r lines s code h h' b b')
+      IfFile h trace (λ lines. RunsAccepted r model lines s code h h' b b')
   pub refused : (refusal : PlainRefusal) → HasVerdict model (Refused refusal) →
       TellsRefusal refusal s h h' b b'
 
@@ -169,10 +173,11 @@ last_script_line taken (AtCall refused) = refused_call_line refused
 -- Right code for the model is written as the one new file. The calls up to the script's end are
 -- answered by its one reading as the system's run has it over every trace that fits them. Their
 -- lines are printed, and then the last line.
-pub record DrivesRightCode (r : ResolvedTable) (system : Option ℕ) (script code : List ℕ)
+pub record DrivesRightCode (r : ResolvedTable) (system : Option ℕ) (model script code : List ℕ)
     (h h' : HostTold) (b b' : SinkTold) : Type 0 where
   pub compilation : Compilation
   pub right : IsCompilationOf r compilation
+  pub noted : HasNotesOf model compilation.code
   pub written : h'.written ≡ add_file h.written code compilation.code
   pub driven : Driven
   pub of_model : IsSystemOfModel r system driven
@@ -185,25 +190,25 @@ pub record DrivesRightCode (r : ResolvedTable) (system : Option ℕ) (script cod
       ++ last_script_line (totals_of_calls answers) (script_end (shape_of driven) script))
 
 -- a system of a model that the rules accept is driven by the script, unless memory runs out
-pub record DrivesSystem (r : ResolvedTable) (system : Option ℕ) (script : List ℕ) (s : ℕ)
+pub record DrivesSystem (r : ResolvedTable) (system : Option ℕ) (model script : List ℕ) (s : ℕ)
     (code : List ℕ) (h h' : HostTold) (b b' : SinkTold) : Type 0 where
   pub status : (shape : Shape) → IsShapeOf r system shape →
       (s ≡ status_at (script_end shape script)) ⊎ (s ≡ 10)
-  pub done : s ≢ 10 → DrivesRightCode r system script code h h' b b'
+  pub done : s ≢ 10 → DrivesRightCode r system model script code h h' b b'
 
 -- what a call does by the system that its word names; where there is none, nothing is written
 abbrev pub DrivesNamed : ResolvedTable → Option (Option ℕ) →
-    (script : List ℕ) (s : ℕ) (code : List ℕ) (h h' : HostTold) (b b' : SinkTold) → Type 0
-DrivesNamed r None script s code h h' b b' =
+    (model script : List ℕ) (s : ℕ) (code : List ℕ) (h h' : HostTold) (b b' : SinkTold) → Type 0
+DrivesNamed r None model script s code h h' b b' =
     Tells 4 no_subsystem_line s b b' × (s ≡ 4 → h'.written ≡ h.written)
-DrivesNamed r (Some system) script s code h h' b b' =
-    IfFile h script (λ lines. DrivesSystem r system lines s code h h' b b')
+DrivesNamed r (Some system) model script s code h h' b b' =
+    IfFile h script (λ lines. DrivesSystem r system model lines s code h h' b b')
 
 -- what a call does with the bytes of its model
 pub record Drives (model word script : List ℕ) (s : ℕ) (code : List ℕ) (h h' : HostTold)
     (b b' : SinkTold) : Type 0 where
   pub accepted : (r : ResolvedTable) → HasVerdict model (Accepted r) →
-      DrivesNamed r (system_named r.table.rows word) script s code h h' b b'
+      DrivesNamed r (system_named r.table.rows word) model script s code h h' b b'
   pub refused : (refusal : PlainRefusal) → HasVerdict model (Refused refusal) →
       TellsRefusal refusal s h h' b b'
 
@@ -216,6 +221,7 @@ pub record MakesRightCode (r : ResolvedTable) (start size : ℕ) (model code : L
     (h h' : HostTold) (b b' : SinkTold) : Type 0 where
   pub compilation : Compilation
   pub right : IsCompilationOf r compilation
+  pub noted : HasNotesOf (model_text start size) compilation.code
   pub written : h'.written
       ≡ add_file (add_file h.written model (model_text start size)) code compilation.code
   pub outputs : GivesOutputs right.code.program (diagram_of_table r)

@@ -44,5 +44,5 @@ module _ (r : ResolvedTable) (c : Compilation) (bytes : List ℕ) (verdict : Has
   not-driven agree NoMemory none = refl
   not-driven agree (CodeRefused fault) none = absurd (agree.apart c.code right.code.program fault right.code.reads none)
   not-driven agree (IsStuck at) none =
-      absurd (starts-right c bytes (record { resolved = r; verdict = verdict; compiled = right }) none.0 at none.2.0 none.1 none.2.1)
+      absurd (starts-right r c right none.0 at none.2.0 none.1 none.2.1)
   not-driven agree _ none = absurd none

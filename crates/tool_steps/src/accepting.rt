@@ -1,11 +1,8 @@
 ghost use Rattle.std.specs.Prelude.{IfErr, IfOk};
 ghost use Rattle.diagram_meaning.specs.ResolvedTable.{table_of_tree};
 ghost use Rattle.tool_endings.specs.Told.{told};
-ghost use Rattle.tool_endings.specs.Acting.{AcceptsFile, NotAccepted};
-ghost use Rattle.tool_endings.specs.EndingsOfModels.{OnBytes};
+ghost use Rattle.tool_endings.specs.Acting.{AcceptsFile, IsAcceptedText, NotAccepted};
 ghost use Rattle.diagram_verdict.specs.Faults.{IsFaultOf};
-ghost use Rattle.diagram_verdict.specs.Verdict.{Accepted, HasVerdict};
-ghost use Rattle.emit_notes.specs.Labels.{AreLabelsOf};
 
 use base_host::{Host, ReadAllFault, read_all};
 use base_refusals::Refusal;
@@ -29,8 +26,7 @@ pub struct AcceptedFile {
 
 /// The model of a text that the rules accept, and what the text says of its blocks.
 fn accept_text(alloc: Global, text: &[u8]) -> Result<AcceptedFile, ModelFault>
-    ensures accepted { IfOk result (λ f. HasVerdict text.now (Accepted (table_of_tree f.resolved))) }
-    ensures labels { IfOk result (λ f. AreLabelsOf text.now f.labels) }
+    ensures accepted { IfOk result (λ f. IsAcceptedText (table_of_tree f.resolved) f.labels text.now) }
     ensures refused { IfErr result (IsFaultOf text.now) }
 {
     let resolved = accept_model(alloc, text)?;
@@ -50,10 +46,8 @@ pub fn accept_file<H: Host>(
     model: &str,
 ) -> Result<AcceptedFile, Ending>
     ensures accepted { let at = told H.files H.rest H.given H.written H.sure H.read_faults H.write_faults in
-        IfOk result (λ f. AcceptsFile (table_of_tree f.resolved) model.now (at host.old)
+        IfOk result (λ f. AcceptsFile (table_of_tree f.resolved) f.labels model.now (at host.old)
         (at host.new)) }
-    ensures labels { let at = told H.files H.rest H.given H.written H.sure H.read_faults H.write_faults in
-        IfOk result (λ f. OnBytes (at host.old) model.now (λ bytes. AreLabelsOf bytes f.labels)) }
     ensures ended { let at = told H.files H.rest H.given H.written H.sure H.read_faults H.write_faults in
         IfErr result (λ ending. NotAccepted ending model.now (at host.old) (at host.new)) }
 {

@@ -13,7 +13,7 @@ use Rattle.tool_commands.proofs.driving.drive_model.Goals as goal
 
 pub returns-in-Err-write_code-clause-ends : goal.returns-in-Err-write_code-clause-ends
 returns-in-Err-write_code-clause-ends g c =
-    drive_unwritten (table_of_tree c.in-Ok.accepted.resolved) c.args.model.now c.args.code.now c.args.subsystem.now c.args.script.now _ _ _
+    drive_unwritten (table_of_tree c.in-Ok.accepted.resolved) c.in-Ok.accepted.labels c.args.model.now c.args.code.now c.args.subsystem.now c.args.script.now _ _ _
     c.in-Ok.ensures.accepted _ c.in-Err-write_code.ending c.in-Err-write_code.ensures.ended
 
 pub returns-in-Ok-driver_in-clause-ends : goal.returns-in-Ok-driver_in-clause-ends
@@ -32,7 +32,7 @@ returns-in-Ok-driver_in-clause-ends g c =
     let s : Option ℕ = c.in-Some.system.row in
     let named : system_named r.table.rows c.args.subsystem.now ≡ Some s = search rules in
     let there : Contains (systems r.table.rows) s = search rules in
-    drive_ends r c.in-Ok-write_code.compiled s c.args.model.now c.args.code.now c.args.subsystem.now c.args.script.now before between later
+    drive_ends r c.in-Ok.accepted.labels c.in-Ok-write_code.compiled s c.args.model.now c.args.code.now c.args.subsystem.now c.args.script.now before between later
     c.in-Ok.ensures.accepted named there c.in-Ok-write_code.ensures.written c.in-Ok-driver_in.driver c.drive_file.result after put puts
     c.in-Ok-driver_in.ensures.stands c.drive_file.ensures.ends c.drive_file.ensures.counts
 
@@ -58,5 +58,5 @@ returns-clause-ends g c =
     let asked : Asked = Drive c.args.model.now c.args.code.now c.args.subsystem.now c.args.script.now in
     subst (λ (e : Ending). Ends e (Some asked) before later put put)
     (sym c.in-Err-driver_in.ensures.ended)
-    (drive_forgets r c.in-Ok-write_code.compiled s c.args.model.now c.args.code.now c.args.subsystem.now c.args.script.now before between
+    (drive_forgets r c.in-Ok.accepted.labels c.in-Ok-write_code.compiled s c.args.model.now c.args.code.now c.args.subsystem.now c.args.script.now before between
     later c.in-Ok.ensures.accepted named there c.in-Ok-write_code.ensures.written put)

@@ -1,8 +1,8 @@
 use Rattle.std.proofs.Common.{rules, ◌≡◌, List, ℕ, sym, subst}
 use Rattle.diagram_meaning.specs.ResolvedTable.{ResolvedTable, table_of_tree}
-use Rattle.diagram_verdict.specs.Verdict.{HasVerdict, Accepted}
-use Rattle.emit_notes.specs.Labels.{AreLabelsOf}
+use Rattle.emit_notes.specs.declared.labels.Labels.{Labels}
 use Rattle.tool_endings.specs.Told.{HostTold, told}
+use Rattle.tool_endings.specs.Acting.{IsAcceptedText}
 use Rattle.tool_endings.proofs.lemmas.Files.{there}
 use Rattle.tool_steps.proofs.LongFiles.{long-file}
 use Rattle.tool_steps.proofs.accepting.accept_file.Goals as goal
@@ -22,6 +22,7 @@ pub returns-in-Ok-accept_text-clause-accepted : goal.returns-in-Ok-accept_text-c
 returns-in-Ok-accept_text-clause-accepted g c =
     let bytes : List ℕ = c.in-Ok.bytes.items in
     let table : ResolvedTable = table_of_tree c.in-Ok-accept_text.accepted.resolved in
+    let labels : Labels = c.in-Ok-accept_text.accepted.labels in
     let before : HostTold =
     told g.H.Host.files g.H.Host.rest g.H.Host.given g.H.Host.written g.H.Host.sure g.H.Host.read_faults g.H.Host.write_faults c.args.host.now in
     let same : c.deref.result.now ≡ bytes = search rules in
@@ -29,23 +30,11 @@ returns-in-Ok-accept_text-clause-accepted g c =
       model = record {
         bytes = bytes;
         file = there before.files before.rest c.args.model.now c.in-Ok.ensures.whole (λ x is. sym is);
-        holds = subst (λ (x : List ℕ). HasVerdict x (Accepted table)) same c.in-Ok-accept_text.ensures.accepted;
+        holds = subst (λ (x : List ℕ). IsAcceptedText table labels x) same c.in-Ok-accept_text.ensures.accepted;
       };
       files = search rules;
       told = c.in-Ok.ensures.told;
       read = c.in-Ok.ensures.front (λ e. cc);
       given = search rules;
       left = record { written = search rules; no_fault = record { read = search rules; write = search rules } };
-    }
-
-pub returns-in-Ok-accept_text-clause-labels : goal.returns-in-Ok-accept_text-clause-labels
-returns-in-Ok-accept_text-clause-labels g c =
-    let bytes : List ℕ = c.in-Ok.bytes.items in
-    let before : HostTold =
-    told g.H.Host.files g.H.Host.rest g.H.Host.given g.H.Host.written g.H.Host.sure g.H.Host.read_faults g.H.Host.write_faults c.args.host.now in
-    let same : c.deref.result.now ≡ bytes = search rules in
-    record {
-      bytes = bytes;
-      file = there before.files before.rest c.args.model.now c.in-Ok.ensures.whole (λ x is. sym is);
-      holds = subst (λ (x : List ℕ). AreLabelsOf x c.in-Ok-accept_text.accepted.labels) same c.in-Ok-accept_text.ensures.labels;
     }
