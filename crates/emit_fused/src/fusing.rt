@@ -7,10 +7,10 @@ ghost use Rattle.emit_fused.specs.Turned.{standing, turned, turned_stmt};
 
 use crate::choice::Choice;
 use crate::choosing::{statement, where_fails};
-use crate::copying::copied_cond;
 use crate::joining::push_before;
 use crate::simplifying::{simplified_expr, simplified_exprs};
 use base_core::Memory;
+use c_renaming::copied_cond;
 use c_syntax::{Cond, Expr, Stmt};
 use std::alloc::Global;
 

@@ -3,7 +3,6 @@
 
 mod choice;
 mod choosing;
-mod copying;
 mod fusing;
 mod fusion;
 mod joining;

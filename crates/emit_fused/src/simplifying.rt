@@ -6,6 +6,7 @@ ghost use Rattle.c_syntax.specs.Plain.{cond_tree, expr_tree};
 ghost use Rattle.emit_fused.specs.Simplified as simplified;
 
 use base_core::Memory;
+use c_renaming::call_of_pure;
 use c_syntax::{BinOp, Cond, Expr};
 use std::alloc::Global;
 
@@ -63,13 +64,6 @@ fn binary(alloc: Global, op: BinOp, left: Expr, right: Expr) -> Result<Expr, Mem
         BinOp::Sub => operation(alloc, BinOp::Sub, left, right),
         BinOp::Div => operation(alloc, BinOp::Div, left, right),
     }
-}
-
-/// A call of a pure function.
-pub(crate) fn call_of_pure(function: u32, values: Vec<Expr>) -> Expr
-    ensures { expr_tree result ≡ tree.pure function (exprs_of_list (map expr_tree values.items)) }
-{
-    Expr::Pure(function, values)
 }
 
 /// A simplified expression.

@@ -6,7 +6,6 @@ mod InlinedRefines
 mod LinesInlined
 mod OneByOne
 mod CountLaws
-mod MovedLists
 mod FlagLaws
 mod FoundHelpers
 mod InlinedLists

@@ -5,6 +5,8 @@ use Rattle.c_syntax.specs.declared.code.Leaf.{Leaf}
 use Rattle.c_syntax.specs.declared.code.Leaf.TheVariants.{Param, Own, Child}
 use Rattle.c_syntax.specs.declared.code.Target.TheVariants as target
 use Rattle.c_syntax.specs.Tree.{ExprTree, literal, neg, read, binary, pick, pure, item, ExprTrees, no_exprs, more_exprs, CondTree, compare, both, either, negated, StmtTree, assign, assign_at, branch, call, StmtTrees, no_stmts, more_stmts, stmts_append, ProcedureTree, ProgramTree}
+pub use Rattle.emit_pruned.specs.Pruned.{kept_before, kept_from}
+use Rattle.c_renaming.specs.Renamed.{renamed_expr, renamed_exprs, renamed_cond, renamed_stmt, renamed_stmts}
 use Rattle.c_semantics.specs.Machine.{is_interface}
 
 -- ---- Who calls what
@@ -88,52 +90,22 @@ module _ (param place : ℕ → ℕ) where
   moved_leaf (Own f) = Own f
   moved_leaf (Child f g) = Child f g
 
-  abbrev mutual
-    pub moved_expr : ExprTree → ExprTree
-    moved_expr (literal value) = literal value
-    moved_expr (neg e) = neg (moved_expr e)
-    moved_expr (read leaf) = read (moved_leaf leaf)
-    moved_expr (binary op a b) = binary op (moved_expr a) (moved_expr b)
-    moved_expr (pick test a b) = pick (moved_cond test) (moved_expr a) (moved_expr b)
-    moved_expr (pure k es) = pure k (moved_exprs es)
-    moved_expr (item f index) = item f (moved_expr index)
+  -- an expression, expressions and a condition
+  abbrev pub moved_expr : ExprTree → ExprTree
+  moved_expr e = renamed_expr moved_leaf (λ k. k) place e
 
-    pub moved_exprs : ExprTrees → ExprTrees
-    moved_exprs no_exprs = no_exprs
-    moved_exprs (more_exprs e es) = more_exprs (moved_expr e) (moved_exprs es)
+  abbrev pub moved_exprs : ExprTrees → ExprTrees
+  moved_exprs es = renamed_exprs moved_leaf (λ k. k) place es
 
-    pub moved_cond : CondTree → CondTree
-    moved_cond (compare how a b) = compare how (moved_expr a) (moved_expr b)
-    moved_cond (both a b) = both (moved_cond a) (moved_cond b)
-    moved_cond (either a b) = either (moved_cond a) (moved_cond b)
-    moved_cond (negated a) = negated (moved_cond a)
+  abbrev pub moved_cond : CondTree → CondTree
+  moved_cond test = renamed_cond moved_leaf (λ k. k) place test
 
-  abbrev mutual
-    pub moved_stmt : StmtTree → StmtTree
-    moved_stmt (assign line f value) = assign line f (moved_expr value)
-    moved_stmt (assign_at line f index value) =
-        assign_at line f (moved_expr index) (moved_expr value)
-    moved_stmt (branch line test on_true on_false) =
-        branch line (moved_cond test) (moved_stmts on_true) (moved_stmts on_false)
-    moved_stmt (call line k target values) = call line (place k) target (moved_exprs values)
+  -- a statement and statements
+  abbrev pub moved_stmt : StmtTree → StmtTree
+  moved_stmt s = renamed_stmt moved_leaf (λ k. k) place s
 
-    pub moved_stmts : StmtTrees → StmtTrees
-    moved_stmts no_stmts = no_stmts
-    moved_stmts (more_stmts s ss) = more_stmts (moved_stmt s) (moved_stmts ss)
-
--- ---- Some procedures alone
-
--- which items of a list are kept
-module _ (keeps : ℕ → Bool) where
-  -- how many of the first k are kept, which is the new position of the one at k
-  abbrev pub kept_before : ℕ → ℕ
-  kept_before zero = 0
-  kept_before (suc k) = kept_before k + (if keeps k then 1 else 0)
-
-  -- those of the items from position n on that are kept
-  abbrev pub kept_from : {A : Type 0} → ℕ → List A → List A
-  kept_from n [] = []
-  kept_from n (x ∷ xs) = (if keeps n then x ∷ [] else []) ++ kept_from (suc n) xs
+  abbrev pub moved_stmts : StmtTrees → StmtTrees
+  moved_stmts ss = renamed_stmts moved_leaf (λ k. k) place ss
 
 -- ---- Bodies in place of calls
 

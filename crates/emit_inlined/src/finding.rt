@@ -9,8 +9,9 @@ ghost use Rattle.emit_inlined.specs.Inlined.{param_of, params_of};
 ghost use Rattle.emit_inlined.specs.Steps.{call_by, call_seen, helper_at, helpers_by, helpers_of, inlined_flags, is_helper_of, stmt_helpers};
 
 use crate::helpers::HelperCall;
-use crate::names::{is_interface, is_root_name};
+use crate::names::is_root_name;
 use base_core::Memory;
+use c_names::is_interface;
 use c_syntax::{Expr, Leaf, Procedure, Stmt, Target};
 use std::alloc::Global;
 

@@ -5,16 +5,16 @@ ghost use Rattle.c_syntax.specs.Plain.{procedure_tree, stmt_tree};
 ghost use Rattle.emit_pruned.specs.Marks.{flag_at};
 ghost use Rattle.emit_inlined.specs.Inlined as code;
 ghost use Rattle.emit_inlined.specs.Inlined.{itself, no_procedure};
-ghost use Rattle.emit_inlined.specs.Steps.{in_place_by, place_in, procedure_by, stmts_by};
+ghost use Rattle.emit_inlined.specs.Steps.{in_place_by, move_param, move_place, place_in, procedure_by, stmts_by};
 
 use crate::finding::helper_call;
 use crate::helpers::HelperCall;
 use crate::moves::Moves;
-use crate::moving::{moved_stmt, moved_stmts};
-use crate::names::is_interface;
 use crate::params::Params;
 use crate::places::Places;
 use base_core::{Memory, Text};
+use c_names::is_interface;
+use c_renaming::{copied_stmt, copied_stmts, rename_body, rename_stmt};
 use c_syntax::{Procedure, Stmt, copied_params};
 use std::alloc::Global;
 
@@ -27,6 +27,16 @@ fn body_at(procedures: &[Procedure], position: u32) -> &[Stmt]
         Some(q) => q.body.as_slice(),
         None => &[],
     }
+}
+
+/// A copy of statements, with other parameters and places.
+fn moved_stmts(alloc: Global, moves: &Moves<'_>, ss: &[Stmt]) -> Result<Vec<Stmt>, Memory>
+    ensures { IfOk result (λ v. stmts_of_list (map stmt_tree v.items)
+        ≡ code.moved_stmts (move_param moves.now) (move_place moves.now) (stmts_of_list (map stmt_tree ss.now))) }
+{
+    let mut list = copied_stmts(alloc, ss)?;
+    rename_body(moves, &mut list);
+    Ok(list)
 }
 
 /// Statements with their calls at new positions.
@@ -52,8 +62,10 @@ fn placed_stmt(alloc: Global, places: &Places, s: &Stmt) -> Result<Vec<Stmt>, Me
         params: &params,
         places,
     };
+    let mut alone = copied_stmt(alloc, s)?;
+    rename_stmt(&moves, &mut alone);
     let mut list = Vec::new(alloc);
-    list.push(moved_stmt(alloc, &moves, s)?)?;
+    list.push(alone)?;
     Ok(list)
 }
 

@@ -7,7 +7,6 @@ mod helpers;
 mod inlining;
 mod laws;
 mod moves;
-mod moving;
 mod names;
 mod params;
 mod places;

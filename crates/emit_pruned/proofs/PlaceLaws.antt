@@ -1,14 +1,10 @@
--- Places of functions, and the code with calls by them, made one after another.
+-- Places of functions, and those that are kept, one after another.
 use Rattle.std.specs.Prelude.{◌≡◌, ℕ, zero, suc, ◌+◌, ◌-◌, ◌<◌, ◌≤◌, nat_lt, Bool, true, false, List, [], ◌∷◌, ◌++◌, map, length, slice_index_or, if◌then◌else◌}
-use Rattle.std.proofs.Common.{refl, sym, ap, ◌∙◌, arith, take, get_or}
+use Rattle.std.proofs.Common.{refl, sym, ap, ◌∙◌, arith}
 use Rattle.std.proofs.lemmas.Bool.Decides.{nat_tests}
-use Rattle.std.proofs.lemmas.List.{append-nil, append_assoc, map-append, take_more, length-take-le}
-use Rattle.c_syntax.specs.declared.code.Expr.{Expr}
-use Rattle.c_syntax.specs.declared.code.Stmt.{Stmt}
-use Rattle.c_syntax.specs.Tree.{PureTree, more_exprs, more_stmts, exprs_of_list, stmts_of_list}
-use Rattle.c_syntax.specs.Plain.{expr_tree, stmt_tree}
+use Rattle.std.proofs.lemmas.List.{append_assoc}
 use Rattle.emit_pruned.specs.Marks.{flag_at}
-use Rattle.emit_pruned.specs.Pruned.{renumbered_expr, renumbered_exprs, renumbered_stmt, renumbered_stmts, renumbered_pure, kept_before, kept_from}
+use Rattle.emit_pruned.specs.Pruned.{kept_before, kept_from}
 
 -- ---- Places
 
@@ -70,73 +66,24 @@ pub placed : (flags : List Bool) (before : List ℕ) (kept i k : ℕ) → i ≡ 
 placed flags before kept i k all made count =
     (λ j. slice_index_or (made j) k (count j)) ∙ counted-at (flag_at flags) i k (λ m past. none-flagged flags m (omega (arith, all, past)))
 
--- ---- Code
+-- ---- The items that are kept
 
-take-whole : {A : Type 0} (xs : List A) (i : ℕ) → length xs ≤ i → take i xs ≡ xs
-take-whole [] zero e = refl
-take-whole [] (suc i) e = refl
-take-whole (x ∷ xs) zero e = absurd (omega (arith, e))
-take-whole (x ∷ xs) (suc i) e = ap (λ ys. x ∷ ys) (take-whole xs i (omega (arith, e)))
+module _ {A : Type 0} (keeps : ℕ → Bool) where
+  -- what is kept of the items from a position on, with what was kept of those before them
+  abbrev pub KeptSoFar : (kept : List A) (position : ℕ) (rest all : List A) → Type 0
+  KeptSoFar kept position rest all = kept ++ kept_from keeps position rest ≡ kept_from keeps 0 all
 
-module _ (place : ℕ → ℕ) where
-  exprs-one-by-one : (es : List Expr) →
-      exprs_of_list (map (λ e. renumbered_expr place (expr_tree e)) es) ≡ renumbered_exprs place (exprs_of_list (map expr_tree es))
-  exprs-one-by-one [] = refl
-  exprs-one-by-one (e ∷ es) = ap (more_exprs (renumbered_expr place (expr_tree e))) (exprs-one-by-one es)
+  next-place : (n : ℕ) (xs : List A) → kept_from keeps (suc n) xs ≡ kept_from keeps (n + 1) xs
+  next-place n xs = ap (λ k. kept_from keeps k xs) (let same : suc n ≡ n + 1 = omega arith in same)
 
-  stmts-one-by-one : (ss : List Stmt) →
-      stmts_of_list (map (λ s. renumbered_stmt place (stmt_tree s)) ss) ≡ renumbered_stmts place (stmts_of_list (map stmt_tree ss))
-  stmts-one-by-one [] = refl
-  stmts-one-by-one (s ∷ ss) = ap (more_stmts (renumbered_stmt place (stmt_tree s))) (stmts-one-by-one ss)
+  pub keeps-one : (kept : List A) (n : ℕ) (x : A) (xs all : List A) → keeps n ≡ true → KeptSoFar kept n (x ∷ xs) all →
+      KeptSoFar (kept ++ x ∷ []) (n + 1) xs all
+  keeps-one kept n x xs all is before =
+      append_assoc kept (x ∷ []) (kept_from keeps (n + 1) xs) ∙ ap (λ ys. kept ++ x ∷ ys) (sym (next-place n xs))
+      ∙ ap (λ b. kept ++ ((if b then x ∷ [] else []) ++ kept_from keeps (suc n) xs)) (sym is) ∙ before
 
-  pub exprs-renumbered : (es list : List Expr) (i : ℕ) → length es ≤ i →
-      map expr_tree list ≡ map (λ e. renumbered_expr place (expr_tree e)) (take i es) →
-      exprs_of_list (map expr_tree list) ≡ renumbered_exprs place (exprs_of_list (map expr_tree es))
-  exprs-renumbered es list i all made =
-      ap exprs_of_list (made ∙ ap (map (λ e. renumbered_expr place (expr_tree e))) (take-whole es i all)) ∙ exprs-one-by-one es
-
-  pub stmts-renumbered : (ss list : List Stmt) (i : ℕ) → length ss ≤ i →
-      map stmt_tree list ≡ map (λ s. renumbered_stmt place (stmt_tree s)) (take i ss) →
-      stmts_of_list (map stmt_tree list) ≡ renumbered_stmts place (stmts_of_list (map stmt_tree ss))
-  stmts-renumbered ss list i all made =
-      ap stmts_of_list (made ∙ ap (map (λ s. renumbered_stmt place (stmt_tree s))) (take-whole ss i all)) ∙ stmts-one-by-one ss
-
--- ---- The functions that are kept
-
-module _ (keeps : ℕ → Bool) where
-  kept-push : (fs : List PureTree) (n m : ℕ) (f : PureTree) → n + length fs ≡ m →
-      kept_from keeps n (fs ++ f ∷ []) ≡ kept_from keeps n fs ++ (if keeps m then f ∷ [] else [])
-  kept-push [] n m f e =
-      append-nil (if keeps n then f ∷ [] else []) ∙ ap (λ k. if keeps k then f ∷ [] else []) (let same : n ≡ m = omega (arith, e) in same)
-  kept-push (g ∷ fs) n m f e =
-      ap (λ gs. (if keeps n then g ∷ [] else []) ++ gs) (kept-push fs (suc n) m f (omega (arith, e)))
-      ∙ sym (append_assoc (if keeps n then g ∷ [] else []) (kept_from keeps (suc n) fs) (if keeps m then f ∷ [] else []))
-
-  pub kept-one-more : (place : ℕ → ℕ) (fs : List PureTree) (i : ℕ) (f : PureTree) → i < length fs → f ≡ get_or fs i f →
-      map (renumbered_pure place) (kept_from keeps 0 (take (i + 1) fs))
-      ≡ map (renumbered_pure place) (kept_from keeps 0 (take i fs)) ++ (if keeps i then renumbered_pure place f ∷ [] else [])
-  kept-one-more place fs i f inside read =
-      ap (λ gs. map (renumbered_pure place) (kept_from keeps 0 gs)) (take_more fs i f inside ∙ ap (λ x. take i fs ++ x ∷ []) (sym read))
-      ∙ ap (map (renumbered_pure place)) (kept-push (take i fs) 0 i f (let long = length-take-le i fs (omega arith) in omega (arith, long)))
-      ∙ map-append (renumbered_pure place) (kept_from keeps 0 (take i fs)) (if keeps i then f ∷ [] else [])
-      ∙ ap (λ gs. map (renumbered_pure place) (kept_from keeps 0 (take i fs)) ++ gs) (inside_choice (keeps i))
-    where
-      inside_choice : (b : Bool) → map (renumbered_pure place) (if b then f ∷ [] else []) ≡ (if b then renumbered_pure place f ∷ [] else [])
-      inside_choice true = refl
-      inside_choice false = refl
-
-  pub kept-yes : (place : ℕ → ℕ) (fs made : List PureTree) (i : ℕ) (f g : PureTree) → i < length fs → f ≡ get_or fs i f → keeps i ≡ true →
-      made ≡ map (renumbered_pure place) (kept_from keeps 0 (take i fs)) → g ≡ renumbered_pure place f →
-      made ++ g ∷ [] ≡ map (renumbered_pure place) (kept_from keeps 0 (take (i + 1) fs))
-  kept-yes place fs made i f g inside read keep is same =
-      (λ j. is j ++ same j ∷ [])
-      ∙ ap (λ b. map (renumbered_pure place) (kept_from keeps 0 (take i fs)) ++ (if b then renumbered_pure place f ∷ [] else [])) (sym keep)
-      ∙ sym (kept-one-more place fs i f inside read)
-
-  pub kept-no : (place : ℕ → ℕ) (fs made : List PureTree) (i : ℕ) (f : PureTree) → i < length fs → f ≡ get_or fs i f → keeps i ≡ false →
-      made ≡ map (renumbered_pure place) (kept_from keeps 0 (take i fs)) →
-      made ≡ map (renumbered_pure place) (kept_from keeps 0 (take (i + 1) fs))
-  kept-no place fs made i f inside read drop is =
-      is ∙ sym (append-nil (map (renumbered_pure place) (kept_from keeps 0 (take i fs))))
-      ∙ ap (λ b. map (renumbered_pure place) (kept_from keeps 0 (take i fs)) ++ (if b then renumbered_pure place f ∷ [] else [])) (sym drop)
-      ∙ sym (kept-one-more place fs i f inside read)
+  pub drops-one : (kept : List A) (n : ℕ) (x : A) (xs all : List A) → keeps n ≡ false → KeptSoFar kept n (x ∷ xs) all →
+      KeptSoFar kept (n + 1) xs all
+  drops-one kept n x xs all is before =
+      ap (λ ys. kept ++ ys) (sym (next-place n xs))
+      ∙ ap (λ b. kept ++ ((if b then x ∷ [] else []) ++ kept_from keeps (suc n) xs)) (sym is) ∙ before

@@ -6,7 +6,6 @@ mod marks;
 mod places;
 mod placing;
 mod program;
-mod renumbering;
 
 pub use laws::{calls_mean_no_lines, pruned_has_none_idle, pruned_is_lawful, pruned_runs_alike};
 pub use program::pruned;

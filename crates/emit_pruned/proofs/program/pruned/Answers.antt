@@ -16,7 +16,6 @@ kept_pures-requires c =
     let same : needed_flags c.as_slice.result.now c.as_slice-2.result.now ≡ flags_of (length program.pure.items) calls =
     (λ i. needed_flags (c.as_slice.ensures.value i) (c.as_slice-2.ensures.value i)) in
     ap length (c.as_slice-4.ensures.value ∙ c.in_ok-needed.ensures ∙ same) ∙ flags-length (length program.pure.items) calls
-    ∙ sym (ap length c.as_slice-5.ensures.value)
 
 pub returns : goal.returns
 returns c =
@@ -31,10 +30,9 @@ returns c =
     ∙ ap (λ n. nat_lt k n && has_number calls k) (sym (length-map pures pure_tree))) in
     let place : place_in c.in_ok-places.places ≡ kept_before (is_needed p) =
     fun_ext (λ k. c.in_ok-places.ensures k ∙ ap (λ bs. kept_before (flag_at bs) k) c.as_slice-3.ensures.value) ∙ ap kept_before keeps in
-    let kept = c.in_ok-kept_pures.ensures
-    ∙ (λ i. map (renumbered_pure (place i))
-    (kept_from (flag_at (c.as_slice-4.ensures.value i)) 0 (map pure_tree (c.as_slice-5.ensures.value i))))
-    ∙ (λ i. map (renumbered_pure (kept_before (is_needed p))) (kept_from (keeps i) 0 (map pure_tree pures))) in
-    let moved = c.in_ok-renumbered_procedures.ensures
-    ∙ (λ i. map (renumbered_procedure (place i)) (map procedure_tree (c.as_slice-6.ensures.value i))) in
-    (λ i. record { pures = kept i; structs = program.structs.items; procedures = moved i })
+    let kept = c.in_ok-pure.ensures
+    ∙ (λ i. kept_from (flag_at (c.as_slice-4.ensures.value i)) 0 (map pure_tree pures))
+    ∙ (λ i. kept_from (keeps i) 0 (map pure_tree pures)) in
+    let renumbered = c.rename_pures.ensures ∙ (λ i. map (renumbered_pure (place i)) (kept i)) in
+    let moved = c.rename_procedures.ensures ∙ (λ i. map (renumbered_procedure (place i)) (map procedure_tree program.procedures.items)) in
+    (λ i. record { pures = renumbered i; structs = program.structs.items; procedures = moved i })

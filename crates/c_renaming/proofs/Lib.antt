@@ -1,0 +1,2 @@
+pub mod PartlyMapped
+pub mod Rows
