@@ -45,6 +45,23 @@ fn print_number(alloc: Global, out: &mut Vec<u8>, value: i64) -> Result<(), Allo
     push(out, digits.as_bytes())
 }
 
+// An expression, and a text after it.
+#[cycle(expression)]
+fn print_then(
+    alloc: Global,
+    out: &mut Vec<u8>,
+    scope: &Scope,
+    e: &LusExpr,
+    after: &[u8],
+) -> Result<(), AllocError>
+    ensures { OnOk result (out.new.items
+        ≡ out.old.items ++ expr_bytes (names_in scope.now) (expr_tree e.now) ++ after.now) }
+{
+    print_expr(alloc, out, scope, e)?;
+    push(out, after)
+}
+
+#[cycle(expression)]
 fn print_expr(
     alloc: Global,
     out: &mut Vec<u8>,
@@ -60,38 +77,29 @@ fn print_expr(
         LusExpr::Name(k) => push(out, scope.name(*k)),
         LusExpr::Neg(operand) => {
             push(out, b"(- ")?;
-            print_expr(alloc, out, scope, operand)?;
-            push(out, b")")
+            print_then(alloc, out, scope, operand, b")")
         }
         LusExpr::Not(operand) => {
             push(out, b"(not ")?;
-            print_expr(alloc, out, scope, operand)?;
-            push(out, b")")
+            print_then(alloc, out, scope, operand, b")")
         }
         LusExpr::Two(op, left, right) => {
             push(out, b"(")?;
-            print_expr(alloc, out, scope, left)?;
-            push(out, b" ")?;
+            print_then(alloc, out, scope, left, b" ")?;
             push(out, op_text(*op))?;
             push(out, b" ")?;
-            print_expr(alloc, out, scope, right)?;
-            push(out, b")")
+            print_then(alloc, out, scope, right, b")")
         }
         LusExpr::If(test, on_true, on_false) => {
             push(out, b"(if ")?;
-            print_expr(alloc, out, scope, test)?;
-            push(out, b" then ")?;
-            print_expr(alloc, out, scope, on_true)?;
-            push(out, b" else ")?;
-            print_expr(alloc, out, scope, on_false)?;
-            push(out, b")")
+            print_then(alloc, out, scope, test, b" then ")?;
+            print_then(alloc, out, scope, on_true, b" else ")?;
+            print_then(alloc, out, scope, on_false, b")")
         }
         LusExpr::Arrow(first, later) => {
             push(out, b"(")?;
-            print_expr(alloc, out, scope, first)?;
-            push(out, b" -> ")?;
-            print_expr(alloc, out, scope, later)?;
-            push(out, b")")
+            print_then(alloc, out, scope, first, b" -> ")?;
+            print_then(alloc, out, scope, later, b")")
         }
         LusExpr::Pre(k) => {
             push(out, b"(pre ")?;
