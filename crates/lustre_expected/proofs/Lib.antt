@@ -1,0 +1,9 @@
+pub mod Members
+pub mod RowMembers
+pub mod HeldNames
+pub mod PartNumbers
+pub mod SystemNames
+pub mod InSystem
+pub mod NamesHeld
+pub mod DistinctNames
+pub mod ExpectedValues

@@ -1,0 +1,11 @@
+pub mod lemmas
+pub mod Lists
+pub mod Fresh
+pub mod Places
+pub mod Nodes
+pub mod FunctionCalls
+pub mod Calls
+pub mod Names
+pub mod Laws
+pub mod Ticks
+pub mod Flows

@@ -1,0 +1,6 @@
+pub mod lemmas
+pub mod Calls
+pub mod RowCodes
+pub mod Controls
+pub mod Activity
+pub mod Rows

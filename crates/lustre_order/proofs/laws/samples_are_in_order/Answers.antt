@@ -1,0 +1,6 @@
+use Rattle.lustre_order.specs.OrderLaws.{Passing}
+use Rattle.lustre_order.proofs.lemmas.ReadLaws.{samples_are_in_order}
+use Rattle.lustre_order.proofs.laws.samples_are_in_order.Goals as goal
+
+pub returns : goal.returns
+returns c = λ r s b test. samples_are_in_order r s b (Passing test)

@@ -1,0 +1,11 @@
+pub mod Paths
+pub mod LongDelays
+pub mod Right
+pub mod RightLaws
+pub mod Systems
+pub mod NodeLaws
+pub mod SystemLaws
+pub mod Reads
+pub mod ReadLaws
+pub mod TickLaws
+pub mod RightExamples

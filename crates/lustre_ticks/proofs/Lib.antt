@@ -1,0 +1,16 @@
+pub mod lemmas
+pub mod Lists
+pub mod Setting
+pub mod Agreement
+pub mod NodeNames
+pub mod Held
+pub mod Count
+pub mod Inputs
+pub mod Around
+pub mod Wires
+pub mod Inports
+pub mod Rows
+pub mod Given
+pub mod Everything
+pub mod CallsCarried
+pub mod Whole
