@@ -1,0 +1,4 @@
+mod Searches
+mod Walks
+mod NameLaws
+mod FirstPlaces

@@ -1,0 +1,5 @@
+pub mod FlowLaws
+pub mod RowWalk
+pub mod Steps
+pub mod Walks
+pub mod Files

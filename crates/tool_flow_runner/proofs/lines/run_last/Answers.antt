@@ -1,0 +1,29 @@
+use Rattle.std.proofs.Common.{◌≢◌, rules}
+use Rattle.std.specs.Prelude.{Err}
+use Rattle.tool_runner.proofs.lemmas.Waiting.{if_err, if_ok}
+use Rattle.tool_flow_runner.specs.declared.outcome.FlowFault.TheVariants.{Put}
+use Rattle.tool_flow_runner.specs.Walks.{inside}
+use Rattle.tool_flow_runner.proofs.Walks.{last_put, last_cut}
+use Rattle.tool_flow_runner.proofs.lines.run_last.Goals as goal
+use Rattle.tool_flow_runner.proofs.lines.run_last.Goals.{in-Err+in-Read-1, in-Ok-1}
+
+pub returns-then-is_err-clause-ran : goal.returns-then-is_err-clause-ran
+returns-then-is_err-clause-ran g c =
+    let other : c.tick_last-ran.result ≢ Err Put =
+    elim c.match-ran.branch [ in-Err+in-Read-1 w ↦ search rules | in-Ok-1 w ↦ search rules ] in
+    last_cut c.tick_last-ran.result c.args.text.now
+    (inside c.args.flows.now c.args.walk.now (g.S.Sink.bytes c.args.sink.now))
+    (inside c.tick_last-ran.new.flows c.tick_last-ran.new.walk (g.S.Sink.bytes c.tick_last-ran.new.sink))
+    (g.S.Sink.bytes c.flush.new.sink) c.flush.new.self
+    (if_err c.flush.result c.if-is_err.ensures.value c.flush.ensures.front) other c.tick_last-ran.ensures.ran
+
+pub returns-clause-ran : goal.returns-clause-ran
+returns-clause-ran g c =
+    let other : c.tick_last-ran.result ≢ Err Put =
+    elim c.match-ran.branch [ in-Err+in-Read-1 w ↦ search rules | in-Ok-1 w ↦ search rules ] in
+    last_put c.tick_last-ran.result c.args.text.now
+    (inside c.args.flows.now c.args.walk.now (g.S.Sink.bytes c.args.sink.now))
+    (inside c.tick_last-ran.new.flows c.tick_last-ran.new.walk (g.S.Sink.bytes c.tick_last-ran.new.sink))
+    (g.S.Sink.bytes c.flush.new.sink) c.flush.new.self
+    (if_ok c.flush.result c.if-is_err.ensures.value c.flush.ensures.whole) c.flush.ensures.empty other
+    c.tick_last-ran.ensures.ran

@@ -1,0 +1,6 @@
+pub mod FlowTraces
+pub mod Pieces
+pub mod Runs
+pub mod Ticks
+pub mod Walks
+pub mod Examples

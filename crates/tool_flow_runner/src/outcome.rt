@@ -1,0 +1,17 @@
+use lustre_interpreter::LusStuck;
+use tool_traces::BadLine;
+
+/// Why the flows of a file stop before the end of a trace.
+#[derive(Clone, Copy, Debug, PartialEq, Eq, Drop)]
+pub enum FlowFault {
+    /// The trace can't be read.
+    Read,
+    /// A line of outputs can't be printed.
+    Put,
+    /// The first line of the trace that is no row.
+    Bad(BadLine),
+    /// The place where a tick is stuck.
+    Stuck(LusStuck),
+    /// Memory ran out.
+    Memory,
+}
