@@ -16,6 +16,10 @@ file_limit = 16_777_216
 abbrev pub IsFile : List ℕ → Items → Type 0
 IsFile bytes file = (length bytes ≤ file_limit) × Mdl bytes file
 
+-- what holds of each text of these items that isn't too long
+abbrev pub OfTexts : Items → (List ℕ → Type 0) → Type 0
+OfTexts file Holds = (bytes : List ℕ) → IsFile bytes file → Holds bytes
+
 -- what is said of a file: it is refused, or its model has this table
 pub data FileVerdict : Type 0 where
   Refused : PlainRefusal → FileVerdict

@@ -9,6 +9,7 @@ mod loops;
 mod read;
 mod resolve;
 
-pub use accept::accept_model;
+pub use accept::{accept_model, accept_sections};
 pub use fault::ModelFault;
 pub use laws::{accepted_tables_are_well_formed, one_file_verdict, one_verdict};
+pub use read::read_file;

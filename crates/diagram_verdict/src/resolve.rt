@@ -1,22 +1,28 @@
-ghost use Rattle.std.specs.Prelude.{IfErr, IfOk};
+ghost use Rattle.std.specs.Prelude.{◌≡◌, IfErr, IfOk, None, OnOk};
+ghost use Rattle.mdl_tree.specs.Values.{section_tree};
+ghost use Rattle.mdl_rows.specs.Refusals.{tree_refusal};
 ghost use Rattle.diagram_meaning.specs.ResolvedTable.{table_of_tree};
 ghost use Rattle.diagram_verdict.specs.Faults.{IsFaultOf};
+ghost use Rattle.diagram_verdict.specs.Files.{OfTexts};
 ghost use Rattle.diagram_verdict.specs.Verdict.{IsModelOf};
 
 use crate::fault::ModelFault;
-use crate::read::read_tree;
 use diagram_meaning::{Resolved, resolve_all};
 use diagram_times::infer_times;
 use diagram_types::infer_types;
+use mdl_table::build;
+use mdl_tree::Section;
 use std::alloc::Global;
 
-/// The resolved tree of a model's text. `Refused` comes exactly where the text, the tree, a type or a sample time is
-/// refused.
-pub(crate) fn resolve_model(alloc: Global, bytes: &[u8]) -> Result<Resolved, ModelFault>
-    ensures model { IfOk result (λ r. IsModelOf bytes.now (table_of_tree r)) }
-    ensures fault { IfErr result (IsFaultOf bytes.now) }
+/// The resolved tree of a model's sections. `Refused` comes exactly where the tree, a type or a sample time is refused.
+pub(crate) fn resolve_model(alloc: Global, file: &Section) -> Result<Resolved, ModelFault>
+    ensures sound { OnOk result (tree_refusal (section_tree file.now).items ≡ None) }
+    ensures model { IfOk result (λ r. OfTexts (section_tree file.now).items
+        (λ bytes. IsModelOf bytes (table_of_tree r))) }
+    ensures fault { IfErr result (λ fault. OfTexts (section_tree file.now).items
+        (λ bytes. IsFaultOf bytes fault)) }
 {
-    let tree = read_tree(alloc, bytes)?;
+    let tree = build(alloc, file)?;
     let types = infer_types(alloc, &tree)?;
     let times = infer_times(alloc, &tree)?;
     Ok(resolve_all(alloc, tree, types, times)?)

@@ -1,14 +1,9 @@
--- What a second reading of an accepted text gives.
-use Rattle.std.proofs.Common.{◌≡◌, refl, sym, ◌∙◌, ap, subst, ℕ, suc, List, [], ◌∷◌, map, Option, None, Some}
-use Rattle.std.specs.Prelude.{MatchOption, Result, Ok, Err}
+-- What is read of the blocks of an accepted text.
+use Rattle.std.proofs.Common.{◌≡◌, refl, sym, ◌∙◌, ap, ℕ, suc, List, [], ◌∷◌, map, None, Some}
+use Rattle.std.specs.Prelude.{Result, Ok, Err}
 use Rattle.std.specs.Result.{result_err}
-use Rattle.std.specs.Str.Lines.{lines}
-use Rattle.base_refusals.specs.declared.SyntaxKind.{SyntaxKind}
 use Rattle.base_refusals.specs.Refusals.{PlainRefusal}
-use Rattle.mdl_tree.specs.Spelling.{Items, LinesSpell, Mdl, Fault, lines_fault}
-use Rattle.mdl_tree.specs.Text.{statements_of}
 use Rattle.mdl_tree.specs.Walks.{SectionTree}
-use Rattle.mdl_tree.proofs.lemmas.OneTree.{same_items, tree_or_fault}
 use Rattle.mdl_params.specs.Defaults.{DefaultTexts, IsDefaults}
 use Rattle.mdl_systems.specs.declared.placed.PlacedBlock.{PlacedBlock}
 use Rattle.mdl_systems.specs.ByDefaults.{ReadingIsByDefaults}
@@ -18,31 +13,10 @@ use Rattle.mdl_systems.specs.Reading.{AreBlocksOf}
 use Rattle.mdl_systems.specs.Refusals.{model_refusal}
 use Rattle.mdl_rows.specs.Models.{Model, model_with}
 use Rattle.mdl_rows.specs.Held.{numbered_from}
-use Rattle.mdl_rows.specs.Refusals.{defaults_of, found_refusal, refusal_by, rows_refusal, tree_refusal}
+use Rattle.mdl_rows.specs.Refusals.{defaults_of, found_refusal, refusal_by, rows_refusal}
 use Rattle.mdl_table.proofs.lemmas.ReadBlocks.{model-by, refusal-by, same-model}
 use Rattle.mdl_table.proofs.lemmas.RowBlocks.{all-none}
-use Rattle.diagram_meaning.specs.RowTable.{RowTable}
-use Rattle.diagram_verdict.specs.Files.{IsModelWith}
 use Rattle.emit_notes.specs.Labels.{label_of, model_labels, placed_label}
-
--- ---- The tree
-
--- a text that spells a tree has no error
-pub no-fault : (bytes : List ℕ) (line : ℕ) (kind : SyntaxKind) (file : Items) → Fault bytes line kind → Mdl bytes file → ⊥
-no-fault bytes line kind file fault is = by (lines_fault (lines bytes)) fault (tree_or_fault (lines bytes))
-  where
-    by : (first : Option (ℕ × SyntaxKind)) → first ≡ Some (line, kind) →
-        MatchOption first ((items : Items) × LinesSpell (lines bytes) items
-        × ((other : Items) → LinesSpell (lines bytes) other → other ≡ items))
-        (λ fault. (items : Items) → ¬ (LinesSpell (lines bytes) items)) → ⊥
-    by None e law = cc e
-    by (Some first) e law = law file is
-
--- the tree that is read again isn't refused
-pub accepted-again : (bytes : List ℕ) (table : RowTable) (file : Items) → IsModelWith bytes table → Mdl bytes file →
-    tree_refusal file ≡ None
-accepted-again bytes table file is again =
-    subst (λ (x : Items). tree_refusal x ≡ None) (same_items is.0 file (statements_of (lines bytes)) is.1.1.0 again.0) is.2
 
 -- ---- The model
 

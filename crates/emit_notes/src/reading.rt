@@ -1,5 +1,4 @@
 ghost use Rattle.std.specs.Prelude.{◌≡◌, IfOk, None, Ok, map};
-ghost use Rattle.mdl_tree.specs.Spelling.{Mdl};
 ghost use Rattle.mdl_tree.specs.Values.{section_tree};
 ghost use Rattle.mdl_params.specs.Defaults.{IsDefaults};
 ghost use Rattle.mdl_blocks.specs.Held.{block_text, kind_text};
@@ -9,8 +8,7 @@ ghost use Rattle.mdl_systems.specs.Refusals.{model_refusal};
 ghost use Rattle.mdl_rows.specs.Interiors as port;
 ghost use Rattle.mdl_rows.specs.Models.{model_with};
 ghost use Rattle.mdl_rows.specs.Refusals.{defaults_of, found_refusal, tree_refusal};
-ghost use Rattle.diagram_meaning.specs.RowTable.{RowTable};
-ghost use Rattle.diagram_verdict.specs.Files.{IsModelWith};
+ghost use Rattle.diagram_verdict.specs.Files.{OfTexts};
 ghost use Rattle.emit_notes.specs.Labels.{AreLabelsOf, label_of, model_labels, placed_label, type_of_kind};
 
 use crate::labels::{Label, Labels};
@@ -18,7 +16,6 @@ use base_core::{Memory, Text};
 use diagram_meaning::BuildFault;
 use mdl_blocks::BlockKind;
 use mdl_params::{BlockType, Defaults};
-use mdl_reader::{ReadFault, read_mdl};
 use mdl_systems::{
     ModelSections, PlacedBlock, ReadModel, find_model, outlines_are_numbered, read_model,
     reading_is_by_defaults,
@@ -140,30 +137,17 @@ fn model_in<'a>(alloc: Global, file: &'a Section) -> Result<ModelSections<'a>, M
     }
 }
 
-/// The sections of an accepted text.
-fn file_of(alloc: Global, text: &[u8]) -> Result<Section, Memory>
-    requires { (table : RowTable) × IsModelWith text.now table }
-    ensures file { IfOk result (λ file. Mdl text.now (section_tree file).items) }
-    ensures accepted { IfOk result (λ file. tree_refusal (section_tree file).items ≡ None) }
-{
-    match read_mdl(alloc, text) {
-        Ok(file) => Ok(file),
-        Err(ReadFault::Memory) => Err(Memory),
-        Err(ReadFault::Syntax { .. }) => unreachable!(),
-    }
-}
-
-/// What an accepted text of a model says of its blocks. It is read a second time.
+/// What the sections of an accepted text say of its blocks.
 ///
 /// # Errors
 ///
 /// Only where memory runs out.
-pub fn labels_of(alloc: Global, text: &[u8]) -> Result<Labels, Memory>
-    requires { (table : RowTable) × IsModelWith text.now table }
-    ensures { IfOk result (AreLabelsOf text.now) }
+pub fn labels_of(alloc: Global, file: &Section) -> Result<Labels, Memory>
+    requires { tree_refusal (section_tree file.now).items ≡ None }
+    ensures { IfOk result (λ labels. OfTexts (section_tree file.now).items
+        (λ bytes. AreLabelsOf bytes labels)) }
 {
-    let file = file_of(alloc, text)?;
-    let found = model_in(alloc, &file)?;
+    let found = model_in(alloc, file)?;
     let defaults = Defaults::new(alloc, found.model)?;
     let rows = labels_with(alloc, &defaults, found)?;
     Ok(Labels { rows })

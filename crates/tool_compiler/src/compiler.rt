@@ -3,7 +3,7 @@ ghost use Rattle.diagram_verdict.specs.Faults.{IsFaultOf};
 ghost use Rattle.tool_compiled.specs.Compilation.{IsCompiledFrom};
 
 use crate::code::compiled_from;
-use diagram_verdict::{ModelFault, accept_model};
+use diagram_verdict::{ModelFault, accept_sections, read_file};
 use emit_notes::labels_of;
 use std::alloc::Global;
 use tool_compiled::Compiled;
@@ -17,7 +17,8 @@ pub fn compile(alloc: Global, bytes: &[u8]) -> Result<Compiled, ModelFault>
     ensures compiled { IfOk result (IsCompiledFrom bytes.now) }
     ensures refused { IfErr result (IsFaultOf bytes.now) }
 {
-    let resolved = accept_model(alloc, bytes)?;
-    let labels = labels_of(alloc, bytes)?;
+    let file = read_file(alloc, bytes)?;
+    let resolved = accept_sections(alloc, &file)?;
+    let labels = labels_of(alloc, &file)?;
     Ok(compiled_from(alloc, &resolved, &labels)?)
 }
