@@ -1,5 +1,5 @@
 -- Lists that are mapped item by item, in place.
-use Rattle.std.proofs.Common.{◌≡◌, ◌≢◌, refl, sym, ap, ap₂, ◌∙◌, ℕ, zero, suc, ◌+◌, ◌<◌, ◌≤◌, List, [], ◌∷◌, length, map, drop, get_or, slice_index_or, slice_set, arith}
+use Rattle.std.proofs.Common.{◌≡◌, ◌≢◌, refl, ap, ap₂, ◌∙◌, ℕ, zero, suc, ◌+◌, ◌<◌, ◌≤◌, List, [], ◌∷◌, length, map, drop, get_or, slice_index_or, slice_set, arith}
 use Rattle.std.proofs.lemmas.List.{length-set, get_or-set_other}
 use Rattle.c_syntax.specs.Tree.{ExprTree, exprs_of_list, more_exprs, StmtTree, stmts_of_list, more_stmts}
 use Rattle.c_syntax.specs.declared.Leaf.{Leaf}

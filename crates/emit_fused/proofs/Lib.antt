@@ -2,7 +2,6 @@ pub mod lemmas
 mod SameReads
 mod KeptFields
 mod FusedParts
-mod Neighbours
 mod FusedRefines
 mod FusedLawful
 mod FusedLines

@@ -2,21 +2,15 @@
 use Rattle.std.specs.Prelude.{◌≡◌, ◌≢◌, ℕ, zero, suc, ◌+◌, ◌<◌, ◌≤◌, Bool, true, false, List, [], ◌∷◌, ◌++◌, length, map, flat_map}
 use Rattle.std.proofs.Common.{refl, sym, ap, subst, ◌∙◌, arith, take, get_or}
 use Rattle.std.proofs.lemmas.Bool.{and_from, and_parts, and_left, and_right}
-use Rattle.std.proofs.lemmas.Grind.{flat_map-append}
-use Rattle.std.proofs.lemmas.List.{append-nil, append_assoc, take_more}
+use Rattle.std.proofs.lemmas.List.{append_assoc, take_all}
 use Rattle.c_syntax.specs.declared.code.Expr.{Expr}
 use Rattle.c_syntax.specs.declared.code.Stmt.{Stmt}
 use Rattle.c_syntax.specs.Tree.{ExprTrees, more_exprs, exprs_of_list, stmts_of_list}
 use Rattle.c_syntax.specs.Plain.{expr_tree, stmt_tree}
+use Rattle.c_renaming.proofs.lemmas.OneByOne.{done-more, done-all}
 use Rattle.emit_fused.specs.Same.{same_expr, same_exprs}
 use Rattle.emit_fused.specs.Kept.{expr_fields, exprs_fields, stmt_keeps, stmts_keep}
 use Rattle.emit_fused.specs.Simplified.{simplified_expr, simplified_exprs}
-
-pub take-whole : {A : Type 0} (xs : List A) (i : ℕ) → length xs ≤ i → take i xs ≡ xs
-take-whole [] zero e = refl
-take-whole [] (suc i) e = refl
-take-whole (x ∷ xs) zero e = absurd (omega (arith, e))
-take-whole (x ∷ xs) (suc i) e = ap (λ ys. x ∷ ys) (take-whole xs i (omega (arith, e)))
 
 -- ---- Rows that are compared
 
@@ -66,7 +60,7 @@ rows-next xs ys i x y h g one other same before =
 pub rows-done : (xs ys : List Expr) (i : ℕ) → length xs ≤ i → length xs ≡ length ys →
     same_exprs (row (take i xs)) (row (take i ys)) ≡ true → same_exprs (row xs) (row ys) ≡ true
 rows-done xs ys i all same before =
-    (λ j. same_exprs (row (sym (take-whole xs i all) j)) (row (sym (take-whole ys i (omega (arith, all, same))) j))) ∙ before
+    (λ j. same_exprs (row (sym (take_all i xs all) j)) (row (sym (take_all i ys (omega (arith, all, same))) j))) ∙ before
 
 -- ---- Statements that keep fields
 
@@ -99,7 +93,7 @@ module _ (fields : List ℕ) where
       subst (λ j. keeps_all (take j ss) ≡ true) next (keep-more ss i s h read kept before)
 
   pub keep-done : (ss : List Stmt) (i : ℕ) → length ss ≤ i → keeps_all (take i ss) ≡ true → keeps_all ss ≡ true
-  keep-done ss i all before = ap keeps_all (sym (take-whole ss i all)) ∙ before
+  keep-done ss i all before = ap keeps_all (sym (take_all i ss all)) ∙ before
 
 -- ---- Fields that expressions read
 
@@ -107,22 +101,23 @@ exprs-flat : (es : List Expr) → flat_map (λ e. expr_fields (expr_tree e)) es 
 exprs-flat [] = refl
 exprs-flat (e ∷ es) = ap (λ ks. expr_fields (expr_tree e) ++ ks) (exprs-flat es)
 
+-- those of one expression after those of others
+abbrev push : List ℕ → List ℕ → List ℕ
+push before ks = before ++ ks
+
+push-append : (before ks js : List ℕ) → push before (ks ++ js) ≡ push (push before ks) js
+push-append before ks js = sym (append_assoc before ks js)
+
 pub fields-more : (es : List Expr) (i : ℕ) (e : Expr) (before middle last : List ℕ) → i < length es → e ≡ get_or es i e →
     middle ≡ before ++ flat_map (λ x. expr_fields (expr_tree x)) (take i es) → last ≡ middle ++ expr_fields (expr_tree e) →
     last ≡ before ++ flat_map (λ x. expr_fields (expr_tree x)) (take (i + 1) es)
 fields-more es i e before middle last inside read made more =
-    more ∙ ap (λ ks. ks ++ f e) made ∙ append_assoc before (flat_map f (take i es)) (f e)
-    ∙ ap (λ ks. before ++ ks)
-    (sym (ap (flat_map f) (take_more es i e inside) ∙ flat_map-append f (take i es) (get_or es i e ∷ [])
-    ∙ ap (λ ks. flat_map f (take i es) ++ ks) (append-nil (f (get_or es i e)) ∙ ap f (sym read))))
-  where
-    f : Expr → List ℕ
-    f x = expr_fields (expr_tree x)
+    done-more push push-append (λ x. expr_fields (expr_tree x)) es i e before middle last inside read made more
 
 pub fields-done : (es : List Expr) (i : ℕ) (before last : List ℕ) → length es ≤ i →
     last ≡ before ++ flat_map (λ x. expr_fields (expr_tree x)) (take i es) → last ≡ before ++ exprs_fields (row es)
 fields-done es i before last all made =
-    made ∙ ap (λ xs. before ++ flat_map (λ x. expr_fields (expr_tree x)) xs) (take-whole es i all) ∙ ap (λ ks. before ++ ks) (exprs-flat es)
+    done-all push push-append (λ x. expr_fields (expr_tree x)) es i before last (exprs_fields (row es)) all (exprs-flat es) made
 
 -- ---- Expressions that are simplified
 
@@ -133,4 +128,4 @@ exprs-one-by-one (e ∷ es) = ap (more_exprs (simplified_expr (expr_tree e))) (e
 pub exprs-simplified : (es list : List Expr) (i : ℕ) → length es ≤ i →
     map expr_tree list ≡ map (λ e. simplified_expr (expr_tree e)) (take i es) → row list ≡ simplified_exprs (row es)
 exprs-simplified es list i all made =
-    ap exprs_of_list (made ∙ ap (map (λ e. simplified_expr (expr_tree e))) (take-whole es i all)) ∙ exprs-one-by-one es
+    ap exprs_of_list (made ∙ ap (map (λ e. simplified_expr (expr_tree e))) (take_all i es all)) ∙ exprs-one-by-one es

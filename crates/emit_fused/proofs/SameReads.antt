@@ -10,8 +10,8 @@ use Rattle.c_syntax.specs.Tree.{ExprTree, literal, neg, read, binary, pick, pure
 use Rattle.c_semantics.specs.Cells.{Cells, cell_at, cell_value, cell_fields, cell_items, number_at}
 use Rattle.c_semantics.specs.Values.{Answer, gives, and_then, within, operate, Function, function_at, reads, leaf_reads, index_in, eval, eval_all, eval_cond, compares}
 use Rattle.base_core.specs.Numbers.{int_at}
+use Rattle.c_renaming.proofs.lemmas.TwoLists.{all-left, all-right}
 use Rattle.emit_fused.specs.Kept.{leaf_fields, expr_fields, exprs_fields, cond_fields}
-use Rattle.emit_fused.proofs.lemmas.Lists.{all-left, all-right}
 
 -- two instances hold the same in a field
 abbrev pub SameAt : Cells → Cells → ℕ → Type 0

@@ -1,15 +1,17 @@
 -- Counts of calls, made one after another.
-use Rattle.std.specs.Prelude.{◌≡◌, ℕ, zero, suc, ◌+◌, ◌-◌, ◌^◌, ◌<◌, ◌≤◌, ◌==◌, min, Bool, true, false, List, [], ◌∷◌, ◌++◌, flat_map, length, replicate, slice_index}
+use Rattle.std.specs.Prelude.{◌≡◌, ℕ, zero, suc, ◌+◌, ◌-◌, ◌^◌, ◌<◌, ◌≤◌, ◌==◌, min, Bool, true, false, List, [], ◌∷◌, ◌++◌, map, flat_map, length, replicate, slice_index}
 use Rattle.std.specs.List.{slice_set}
 use Rattle.std.proofs.Common.{cond, refl, sym, ap, ◌∙◌, arith}
 use Rattle.std.proofs.Math.ListN.{length-set}
 use Rattle.std.proofs.lemmas.Bool.Decides.{nat_tests}
 use Rattle.std.proofs.lemmas.List.{length-replicate}
-use Rattle.c_syntax.specs.Tree.{ProcedureTree}
-use Rattle.emit_inlined.specs.Inlined.{stmts_calls}
+use Rattle.c_syntax.specs.declared.code.Stmt.{Stmt}
+use Rattle.c_syntax.specs.Tree.{ProcedureTree, stmts_of_list}
+use Rattle.c_syntax.specs.Plain.{stmt_tree}
+use Rattle.emit_pruned.proofs.lemmas.Flags.{set-at}
+use Rattle.emit_inlined.specs.Inlined.{stmt_calls, stmts_calls}
 use Rattle.emit_inlined.specs.Steps.{one_more, counted, counts_of}
 use Rattle.emit_inlined.proofs.lemmas.CallCounts.{count_of, count-more}
-use Rattle.emit_inlined.proofs.FlagLaws.{set-at}
 
 pub counted-append : (counts ks js : List ℕ) → counted counts (ks ++ js) ≡ counted (counted counts ks) js
 counted-append counts [] js = refl
@@ -92,3 +94,9 @@ pub counts-length : (ps : List ProcedureTree) → length (counts_of ps) ≡ leng
 counts-length ps =
     counted-length (flat_map (λ (q : ProcedureTree). stmts_calls q.body) ps) (replicate (length ps) 0)
     ∙ length-replicate {A = ℕ} (length ps) 0
+
+-- the calls of statements, one after another
+pub stmts-flat : (ss : List Stmt) →
+    flat_map (λ s. stmt_calls (stmt_tree s)) ss ≡ stmts_calls (stmts_of_list (map stmt_tree ss))
+stmts-flat [] = refl
+stmts-flat (s ∷ ss) = ap (λ ks. stmt_calls (stmt_tree s) ++ ks) (stmts-flat ss)

@@ -5,8 +5,8 @@ use Rattle.std.proofs.Common.{refl, arith}
 use Rattle.c_syntax.specs.Tree.{StmtTree, StmtTrees, no_stmts, more_stmts, stmts_append, ProcedureTree, ProgramTree}
 use Rattle.c_syntax.specs.Limits.{expr_limit, stmt_limit, stmt_depth, stmts_depth, stmt_exprs_depth, stmts_exprs_depth, ProcedureFits}
 use Rattle.c_semantics.specs.Machine.{is_interface}
-use Rattle.emit_inlined.specs.Inlined.{no_procedure, procedure_at, helper_call, stays, moved_stmt, moved_stmts, kept_from, itself, place, inlined_stmts, inlined_procedure, inlined}
-use Rattle.emit_inlined.proofs.lemmas.LawfulMoved.{stmt-depth, stmts-depth, stmt-exprs-depth, stmts-exprs-depth}
+use Rattle.c_renaming.proofs.lemmas.Depths.{stmt-depth, stmts-depth, stmt-exprs-depth, stmts-exprs-depth}
+use Rattle.emit_inlined.specs.Inlined.{no_procedure, procedure_at, helper_call, stays, moved_stmt, moved_stmts, kept_from, itself, moved_leaf, place, inlined_stmts, inlined_procedure, inlined}
 
 -- a size of statements, which is that of the largest and stays with other parameters and places
 record IsSize (one : StmtTree → ℕ) (size : StmtTrees → ℕ) : Type 0 where
@@ -57,16 +57,16 @@ nesting : IsSize stmt_depth stmts_depth
 nesting = record {
   nothing = refl;
   more = λ x xs. refl;
-  moved_one = λ param move x. stmt-depth param move x;
-  moved_all = λ param move xs. stmts-depth param move xs;
+  moved_one = λ param move x. stmt-depth (moved_leaf param move) (λ k. k) move x;
+  moved_all = λ param move xs. stmts-depth (moved_leaf param move) (λ k. k) move xs;
 }
 
 expressions : IsSize stmt_exprs_depth stmts_exprs_depth
 expressions = record {
   nothing = refl;
   more = λ x xs. refl;
-  moved_one = λ param move x. stmt-exprs-depth param move x;
-  moved_all = λ param move xs. stmts-exprs-depth param move xs;
+  moved_one = λ param move x. stmt-exprs-depth (moved_leaf param move) (λ k. k) move x;
+  moved_all = λ param move xs. stmts-exprs-depth (moved_leaf param move) (λ k. k) move xs;
 }
 
 -- ---- Procedures

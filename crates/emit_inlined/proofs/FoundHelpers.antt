@@ -3,7 +3,7 @@ use Rattle.std.specs.Prelude.{◌≡◌, ℕ, zero, suc, ◌+◌, ◌<◌, ◌�
 use Rattle.std.proofs.Common.{refl, sym, ap, ◌∙◌, arith, take, get_or}
 use Rattle.std.proofs.Math.Seq.{get_or-append_seam}
 use Rattle.std.proofs.lemmas.Bool.Decides.{nat_tests}
-use Rattle.std.proofs.lemmas.List.{get_or_append_left, length-map, take_all, take_more}
+use Rattle.std.proofs.lemmas.List.{get_or_append_left, get_or_past, get_or-map, length-map, take_all, take_more}
 use Rattle.std.proofs.lemmas.Option.{same_Some}
 use Rattle.c_syntax.specs.declared.code.Expr.{Expr}
 use Rattle.c_syntax.specs.declared.code.Stmt.{Stmt}
@@ -13,24 +13,17 @@ use Rattle.c_syntax.specs.Plain.{expr_tree, stmt_tree, procedure_tree}
 use Rattle.c_semantics.specs.Machine.{is_interface}
 use Rattle.emit_pruned.specs.Needed.{has_number}
 use Rattle.emit_pruned.specs.Marks.{flag_at}
+use Rattle.emit_pruned.proofs.lemmas.Flags.{flags-inside, flags-length}
 use Rattle.emit_inlined.specs.Inlined.{stmts_calls, call_count, no_procedure, procedure_at, is_root_name, is_helper, param_of, params_of, inlined_helpers, stays, place, inlined_procedure}
 use Rattle.emit_inlined.specs.Steps.{is_helper_of, helper_at, counts_of, call_by, helpers_by, stmt_helpers, inlined_flags, is_kept, procedure_by}
 use Rattle.emit_inlined.proofs.CountLaws.{counted-once}
-use Rattle.emit_inlined.proofs.FlagLaws.{past-flags, flags-inside, flags-length}
 use Rattle.emit_inlined.proofs.lemmas.CallCounts.{inlined-is}
 
 -- ---- Flags of helpers
 
-past-procedures : (ps : List ProcedureTree) (k : ℕ) → length ps ≤ k → slice_index_or ps k no_procedure ≡ no_procedure
-past-procedures [] k past = refl
-past-procedures (p ∷ ps) zero past = absurd (omega (arith, past))
-past-procedures (p ∷ ps) (suc k) past = past-procedures ps k (omega (arith, past))
-
 tree-at : (qs : List Procedure) (i : ℕ) (q : Procedure) → i < length qs → q ≡ get_or qs i q →
     slice_index_or (map procedure_tree qs) i no_procedure ≡ procedure_tree q
-tree-at [] i q inside read = absurd (omega (arith, inside))
-tree-at (x ∷ xs) zero q inside read = ap procedure_tree (sym read)
-tree-at (x ∷ xs) (suc i) q inside read = tree-at xs i q (omega (arith, inside)) read
+tree-at qs i q inside read = get_or-map procedure_tree qs i q no_procedure inside ∙ ap procedure_tree (sym read)
 
 -- the flags of the first procedures
 abbrev pub AreFound : List ℕ → List Procedure → List Bool → ℕ → Type 0
@@ -61,9 +54,9 @@ found-all counts qs flags i all long found k = by (nat_lt k i) refl
     by true e = found k (grind (arith, nat_tests))
     by false e =
         let past : i ≤ k = grind (arith, nat_tests) in
-        past-flags flags k (omega (arith, past, long))
+        get_or_past flags k false (omega (arith, past, long))
         ∙ ap (λ x. is_helper_of x (slice_index counts k))
-        (sym (past-procedures (map procedure_tree qs) k (let same = length-map qs procedure_tree in omega (arith, past, all, same))))
+        (sym (get_or_past (map procedure_tree qs) k no_procedure (let same = length-map qs procedure_tree in omega (arith, past, all, same))))
 
 -- what is found by counts is a helper
 pub helper-found : (p : ProgramTree) (k : ℕ) → helper_at (counts_of p.procedures) p.procedures k ≡ is_helper p k
@@ -75,7 +68,7 @@ helper-found p k = by (nat_lt k (length p.procedures)) refl
         (counted-once (length p.procedures) (flat_map (λ (q : ProcedureTree). stmts_calls q.body) p.procedures) k
         (grind (arith, nat_tests)))
     by false e =
-        let none = past-procedures p.procedures k (let past : length p.procedures ≤ k = grind (arith, nat_tests) in past) in
+        let none = get_or_past p.procedures k no_procedure (let past : length p.procedures ≤ k = grind (arith, nat_tests) in past) in
         ap (λ (x : ProcedureTree). is_helper_of x (slice_index (counts_of p.procedures) k)) none
         ∙ sym (ap (λ (x : ProcedureTree). x.private && (call_count p k == 1) && not (is_interface x.name || is_root_name x.name)) none)
 
@@ -103,14 +96,14 @@ kept-as p k = by (nat_lt k (length p.procedures)) refl
     past : length p.procedures ≤ k → (b : Bool) → stays p k ≡ b → true ≡ b
     past beyond true e = refl
     past beyond false e =
-        let private = ap (λ (x : ProcedureTree). x.private) (past-procedures p.procedures k beyond) in
+        let private = ap (λ (x : ProcedureTree). x.private) (get_or_past p.procedures k no_procedure beyond) in
         let is = (inlined-is p k e).private in absurd (let wrong : ⊥ = cc (sym private ∙ is) in wrong)
 
     by : (b : Bool) → nat_lt k (length p.procedures) ≡ b → is_kept (inlined_flags (is_helper p) p.procedures) k ≡ stays p k
     by true e = ap not (flags-inside (length p.procedures) (inlined_helpers p) k (grind (arith, nat_tests)))
     by false e =
         let beyond : length p.procedures ≤ k = grind (arith, nat_tests) in
-        ap not (past-flags (inlined_flags (is_helper p) p.procedures) k
+        ap not (get_or_past (inlined_flags (is_helper p) p.procedures) k false
         (let long = flags-length (length p.procedures) (inlined_helpers p) in omega (arith, long, beyond)))
         ∙ past beyond (stays p k) refl
 
@@ -154,12 +147,6 @@ params-none (e ∷ es) (suc i) x inside read none =
 
 pub params-all : (es : List Expr) (i : ℕ) (ks : List ℕ) → length es ≤ i → params_in (take i es) ≡ Some ks → Some ks ≡ params_in es
 params-all es i ks all before = sym before ∙ ap params_in (take_all i es all)
-
--- what is read at a place is there in what is seen of a list
-pub seen-at : {A B : Type 0} (f : A → B) (xs : List A) (i : ℕ) (x : A) → i < length xs → x ≡ get_or xs i x → f x ≡ get_or (map f xs) i (f x)
-seen-at f [] i x inside read = absurd (omega (arith, inside))
-seen-at f (y ∷ xs) zero x inside read = ap f read
-seen-at f (y ∷ xs) (suc i) x inside read = seen-at f xs i x (omega (arith, inside)) read
 
 -- the procedures of the new program, by what is found
 pub as-inlined : (p : ProgramTree) → procedure_by p.procedures (is_helper p) (place p) ≡ inlined_procedure p

@@ -4,8 +4,7 @@ mod DepthsInlined
 mod InlinedLawful
 mod InlinedRefines
 mod LinesInlined
-mod OneByOne
 mod CountLaws
-mod FlagLaws
+mod PlaceLaws
 mod FoundHelpers
 mod InlinedLists

@@ -1,5 +1,5 @@
 -- Lawful code is lawful by other positions of pure functions, where the functions that it calls are there.
-use Rattle.std.specs.Prelude.{◌≡◌, ℕ, ◌+◌, max, List, ◌++◌, map, length, Some, slice_get, option_map}
+use Rattle.std.specs.Prelude.{◌≡◌, ℕ, max, List, ◌++◌, map, length, Some, slice_get, option_map}
 use Rattle.std.specs.List.{AllByRecursion}
 use Rattle.std.proofs.Common.{refl, sym, ap, ◌∙◌}
 use Rattle.std.proofs.lemmas.Option.{slice_get-map}
@@ -9,61 +9,14 @@ use Rattle.c_syntax.specs.declared.code.Target.{Target}
 use Rattle.c_syntax.specs.declared.code.Target.TheVariants.{Own as OwnTarget, Child as ChildTarget}
 use Rattle.c_syntax.specs.Tree.{ExprTree, literal, neg, read, binary, pick, pure, item, ExprTrees, no_exprs, more_exprs, CondTree, compare, both, either, negated, StmtTree, assign, assign_at, branch, call, StmtTrees, no_stmts, more_stmts, PureTree, ProcedureTree}
 use Rattle.c_syntax.specs.Chains.{stmt_chain, stmts_chain}
-use Rattle.c_syntax.specs.Limits.{expr_depth, exprs_depth, cond_depth, stmt_depth, stmts_depth, stmt_exprs_depth, stmts_exprs_depth}
-use Rattle.c_syntax.specs.Lawful.{Reach, IsLawfulLeaf, exprs_length, IsLawfulExpr, AreLawfulExprs, IsLawfulCond, IsLawfulTarget, IsLawfulStmt, AreLawfulStmts}
+use Rattle.c_syntax.specs.Lawful.{Reach, IsLawfulLeaf, IsLawfulExpr, AreLawfulExprs, IsLawfulCond, IsLawfulTarget, IsLawfulStmt, AreLawfulStmts}
+use Rattle.c_renaming.proofs.lemmas.Depths.{same-count}
 use Rattle.emit_pruned.specs.Calls.{expr_functions, exprs_functions, cond_functions, stmt_functions, stmts_functions}
 use Rattle.emit_pruned.specs.Pruned.{renumbered_expr, renumbered_exprs, renumbered_cond, renumbered_stmt, renumbered_stmts, renumbered_procedure}
 use Rattle.emit_pruned.proofs.lemmas.Numbers.{all-left, all-right}
 
 module _ (place : ℕ → ℕ) where
   -- ---- What stays
-
-  pub same-count : (es : ExprTrees) → exprs_length (renumbered_exprs place es) ≡ exprs_length es
-  same-count no_exprs = refl
-  same-count (more_exprs e es) = ap (λ n. n + 1) (same-count es)
-
-  mutual
-    pub expr-depth : (e : ExprTree) → expr_depth (renumbered_expr place e) ≡ expr_depth e
-    expr-depth (literal value) = refl
-    expr-depth (neg e) = ap (λ n. n + 1) (expr-depth e)
-    expr-depth (read leaf) = refl
-    expr-depth (binary op a b) = λ i. max (expr-depth a i) (expr-depth b i) + 1
-    expr-depth (pick test a b) = λ i. max (cond-depth test i) (max (expr-depth a i) (expr-depth b i)) + 1
-    expr-depth (pure k es) = ap (λ n. n + 1) (exprs-depth es)
-    expr-depth (item f index) = ap (λ n. n + 1) (expr-depth index)
-
-    pub exprs-depth : (es : ExprTrees) → exprs_depth (renumbered_exprs place es) ≡ exprs_depth es
-    exprs-depth no_exprs = refl
-    exprs-depth (more_exprs e es) = λ i. max (expr-depth e i) (exprs-depth es i)
-
-    pub cond-depth : (c : CondTree) → cond_depth (renumbered_cond place c) ≡ cond_depth c
-    cond-depth (compare how a b) = λ i. max (expr-depth a i) (expr-depth b i) + 1
-    cond-depth (both a b) = λ i. max (cond-depth a i) (cond-depth b i) + 1
-    cond-depth (either a b) = λ i. max (cond-depth a i) (cond-depth b i) + 1
-    cond-depth (negated a) = ap (λ n. n + 1) (cond-depth a)
-
-  mutual
-    pub stmt-depth : (x : StmtTree) → stmt_depth (renumbered_stmt place x) ≡ stmt_depth x
-    stmt-depth (assign line f e) = refl
-    stmt-depth (assign_at line f index e) = refl
-    stmt-depth (branch line test on_true on_false) = λ i. max (stmts-depth on_true i) (stmts-depth on_false i) + 1
-    stmt-depth (call line k target es) = refl
-
-    pub stmts-depth : (xs : StmtTrees) → stmts_depth (renumbered_stmts place xs) ≡ stmts_depth xs
-    stmts-depth no_stmts = refl
-    stmts-depth (more_stmts x xs) = λ i. max (stmt-depth x i) (stmts-depth xs i)
-
-  mutual
-    pub stmt-exprs-depth : (x : StmtTree) → stmt_exprs_depth (renumbered_stmt place x) ≡ stmt_exprs_depth x
-    stmt-exprs-depth (assign line f e) = expr-depth e
-    stmt-exprs-depth (assign_at line f index e) = λ i. max (expr-depth index i) (expr-depth e i)
-    stmt-exprs-depth (branch line test on_true on_false) = λ i.
-        max (cond-depth test i) (max (stmts-exprs-depth on_true i) (stmts-exprs-depth on_false i))
-    stmt-exprs-depth (call line k target es) = exprs-depth es
-
-    pub stmts-exprs-depth : (xs : StmtTrees) → stmts_exprs_depth (renumbered_stmts place xs) ≡ stmts_exprs_depth xs
-    stmts-exprs-depth no_stmts = refl
-    stmts-exprs-depth (more_stmts x xs) = λ i. max (stmt-exprs-depth x i) (stmts-exprs-depth xs i)
 
   module _ (chains : List ℕ) where
     mutual
@@ -124,7 +77,7 @@ module _ (place : ℕ → ℕ) where
           )
       expr-lawful (pure k es) called (f, there, count, all) =
           let (g, stands, same) = called.0 f there in
-          (g, stands, same ∙ count ∙ sym (same-count es), exprs-lawful es called.1 all)
+          (g, stands, same ∙ count ∙ sym (same-count (λ leaf. leaf) place (λ k. k) es), exprs-lawful es called.1 all)
       expr-lawful (item f index) called h = (h.0, expr-lawful index called h.1)
 
       pub exprs-lawful : (es : ExprTrees) → AllByRecursion Called (exprs_functions es) → AreLawfulExprs reach es →
@@ -170,7 +123,7 @@ module _ (place : ℕ → ℕ) where
         renumbered_procedure place q,
         slice_get-map (renumbered_procedure place) reach.procedures k ∙ ap (option_map (renumbered_procedure place)) there,
         target-lawful target q.of of,
-        count ∙ sym (same-count es),
+        count ∙ sym (same-count (λ leaf. leaf) place (λ k. k) es),
         exprs-lawful es called all,
       )
 

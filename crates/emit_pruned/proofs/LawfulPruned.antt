@@ -9,12 +9,13 @@ use Rattle.c_syntax.specs.Outputs.{has_name}
 use Rattle.c_syntax.specs.Chains.{stmts_chain, chain_limit}
 use Rattle.c_syntax.specs.Limits.{PureFits, ProcedureFits, expr_limit, stmt_limit}
 use Rattle.c_syntax.specs.Lawful.{AreDistinct, AreApart, pure_names, procedure_names, param_names, ArePures, AreProcedures, chains_of, IsLawful}
+use Rattle.c_renaming.proofs.lemmas.Depths.{expr-depth, stmts-depth, stmts-exprs-depth}
 use Rattle.emit_pruned.specs.Calls.{expr_functions, stmts_functions, procedures_functions}
 use Rattle.emit_pruned.specs.Pruned.{renumbered_pure, renumbered_procedure, kept_before, kept_from, kept_program}
 use Rattle.emit_pruned.proofs.lemmas.Numbers.{all-parts, each-then}
 use Rattle.emit_pruned.proofs.KeptFunctions.{below-or-at, kept-next, dropped-next, kept-below, AreClosed}
 use Rattle.emit_pruned.proofs.RunsAlike.{KeepsCalled}
-use Rattle.emit_pruned.proofs.LawfulBodies.{Stands, expr-lawful, stmts-lawful, expr-depth, stmts-depth, stmts-exprs-depth, stmts-chain}
+use Rattle.emit_pruned.proofs.LawfulBodies.{Stands, expr-lawful, stmts-lawful, stmts-chain}
 
 -- ---- Lists with one more item
 
@@ -222,7 +223,7 @@ module _ (keeps : ℕ → Bool) where
       by : (b : Bool) → AllByRecursion PureFits (kept_pures (suc n) fs) →
           AllByRecursion PureFits (map (renumbered_pure (kept_before keeps)) ((if b then f ∷ [] else []) ++ kept_from keeps (suc n) fs))
       by true rest =
-          (record { params = h.0.params; body = subst (λ d. d ≤ expr_limit) (sym (expr-depth (kept_before keeps) f.body)) h.0.body }, rest)
+          (record { params = h.0.params; body = subst (λ d. d ≤ expr_limit) (sym (expr-depth (λ leaf. leaf) (kept_before keeps) (λ k. k) f.body)) h.0.body }, rest)
       by false rest = rest
 
 -- ---- Procedures
@@ -234,8 +235,8 @@ module _ (place : ℕ → ℕ) where
   procedures-fit (q ∷ qs) h = (
     record {
       params = h.0.params;
-      statements = subst (λ d. d ≤ stmt_limit) (sym (stmts-depth place q.body)) h.0.statements;
-      expressions = subst (λ d. d ≤ expr_limit) (sym (stmts-exprs-depth place q.body)) h.0.expressions;
+      statements = subst (λ d. d ≤ stmt_limit) (sym (stmts-depth (λ leaf. leaf) place (λ k. k) q.body)) h.0.statements;
+      expressions = subst (λ d. d ≤ expr_limit) (sym (stmts-exprs-depth (λ leaf. leaf) place (λ k. k) q.body)) h.0.expressions;
     },
     procedures-fit qs h.1,
   )

@@ -22,7 +22,7 @@ fn mark(needed: &mut [bool], function: u32)
 }
 
 /// Marks what an expression calls.
-#[tactic(auto, using(crate::proofs::FlagLaws::marked_append))]
+#[tactic(auto, using(crate::proofs::lemmas::Flags::marked_append))]
 #[cycle(expression)]
 fn mark_expr(needed: &mut [bool], e: &Expr)
     ensures { needed.new ≡ marked needed.old (expr_functions (expr_tree e.now)) }
@@ -60,7 +60,7 @@ fn mark_exprs(needed: &mut [bool], es: &[Expr])
 }
 
 /// Marks what a condition calls.
-#[tactic(auto, using(crate::proofs::FlagLaws::marked_append))]
+#[tactic(auto, using(crate::proofs::lemmas::Flags::marked_append))]
 #[cycle(expression)]
 fn mark_cond(needed: &mut [bool], test: &Cond)
     ensures { needed.new ≡ marked needed.old (cond_functions (cond_tree test.now)) }
@@ -83,7 +83,7 @@ fn mark_cond(needed: &mut [bool], test: &Cond)
 }
 
 /// Marks what a statement calls.
-#[tactic(auto, using(crate::proofs::FlagLaws::marked_append))]
+#[tactic(auto, using(crate::proofs::lemmas::Flags::marked_append))]
 #[cycle(statement)]
 fn mark_stmt(needed: &mut [bool], s: &Stmt)
     ensures { needed.new ≡ marked needed.old (stmt_functions (stmt_tree s.now)) }

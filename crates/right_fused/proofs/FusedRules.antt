@@ -23,7 +23,8 @@ use Rattle.emit_shape.specs.Stored.{stored_on, stored_in, stored_names}
 use Rattle.emit_pruned.proofs.lemmas.Numbers.{each-then, all-parts, all-whole}
 use Rattle.emit_fused.specs.Simplified.{simplified_expr}
 use Rattle.emit_fused.specs.Fused.{fused_procedure}
-use Rattle.right_fused.proofs.lemmas.Lists.{each-map, map-each, member, each-in, zip-map, zip-push, filter-map, any-map, any-flat, any-count, count-flat}
+use Rattle.right_pruned.proofs.lemmas.Lists.{each-map, member, zip-map, filter-map}
+use Rattle.right_fused.proofs.lemmas.Lists.{map-each, each-in, zip-push, any-map, any-flat, any-count, count-flat}
 use Rattle.right_fused.proofs.FusedReads.{leaves-left}
 use Rattle.right_fused.proofs.FusedBodies.{stores-fused, store-count, calls-fused, call-count, indices-fused, tests-fused, tests-back}
 

@@ -4,6 +4,7 @@ use Rattle.std.specs.List.{AllByRecursion, AllZip}
 use Rattle.std.proofs.Common.{refl, sym, ap, subst, ◌∙◌}
 use Rattle.std.proofs.lemmas.List.{length-map}
 use Rattle.std.proofs.lemmas.List.Sorted.{IsPermutation-map}
+use Rattle.std.proofs.lemmas.Simd.{map-map}
 use Rattle.diagram_meaning.specs.Diagram.{Diagram}
 use Rattle.modules_profile.specs.Systems.{systems, system_name}
 use Rattle.modules_profile.specs.Locals.{own_header}
@@ -28,7 +29,8 @@ use Rattle.emit_shape.specs.ProgramShape.{viewed, HasSystemShape, HasShape}
 use Rattle.emit_pruned.proofs.lemmas.Numbers.{each-then}
 use Rattle.emit_fused.specs.Simplified.{simplified_expr}
 use Rattle.emit_fused.specs.Fused.{fused_stmt, fused_stmts, fused_procedure, fused}
-use Rattle.right_fused.proofs.lemmas.Lists.{each-map, each-by, zip-map, zip-each, map-map, filter-map, filter-same}
+use Rattle.right_pruned.proofs.lemmas.Lists.{each-map, zip-map, filter-map}
+use Rattle.right_fused.proofs.lemmas.Lists.{each-by, zip-each, filter-same}
 use Rattle.right_fused.proofs.AnyFunctions.{simplified-gives}
 use Rattle.right_fused.proofs.FusedReads.{exprs-list}
 use Rattle.right_fused.proofs.FusedRules.{read-left, named-left, keeps, once-fused, used-fused}

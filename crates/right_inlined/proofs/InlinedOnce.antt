@@ -34,7 +34,8 @@ use Rattle.emit_shape.specs.Programs.{names_in, procedures_of}
 use Rattle.emit_pruned.proofs.lemmas.Numbers.{each-then}
 use Rattle.emit_inlined.proofs.lemmas.Staying.{was}
 use Rattle.emit_inlined.specs.Inlined.{stays, place, moved_leaf, inlined_procedure, inlined}
-use Rattle.right_fused.proofs.lemmas.Lists.{member, each-in, any-count}
+use Rattle.right_pruned.proofs.lemmas.Lists.{member}
+use Rattle.right_fused.proofs.lemmas.Lists.{each-in, any-count}
 use Rattle.right_inlined.proofs.HelperCalls.{HasHelper}
 use Rattle.right_inlined.proofs.HelperNames.{group-out, group-update, group-ticks, logged-ticks}
 use Rattle.right_inlined.proofs.InlinedRules.{callee, head-at, rule-at}

@@ -30,7 +30,7 @@ use Rattle.emit_pruned.proofs.lemmas.Numbers.{all-left, all-right}
 use Rattle.emit_inlined.specs.Inlined.{stmt_calls, stmts_calls, stays, place, itself, kept_from, moved_leaf, moved_expr, moved_exprs, moved_cond, moved_stmt, moved_stmts, inlined_stmts, inlined_procedure, inlined}
 use Rattle.emit_inlined.proofs.lemmas.CallCounts.{others_in, public-stays}
 use Rattle.emit_inlined.proofs.lemmas.Staying.{procedure-at, remaining-holds}
-use Rattle.right_fused.proofs.lemmas.Lists.{each-map, zip-map, filter-map}
+use Rattle.right_pruned.proofs.lemmas.Lists.{each-map, zip-map, filter-map}
 use Rattle.right_inlined.proofs.InlinedRules.{Placed, placed-below, itself-named}
 use Rattle.right_inlined.proofs.MovedRules.{zip-with}
 use Rattle.right_inlined.proofs.MovedSites.{exprs-list, stmts-list}

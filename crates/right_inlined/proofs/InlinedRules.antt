@@ -22,7 +22,7 @@ use Rattle.emit_inlined.specs.Inlined.{stmt_calls, stmts_calls, procedure_at, he
 use Rattle.emit_inlined.proofs.lemmas.AtPositions.{reach_of, body-lawful}
 use Rattle.emit_inlined.proofs.lemmas.CallCounts.{others_in}
 use Rattle.emit_inlined.proofs.lemmas.Staying.{procedure-at, stays-at, remaining-holds, helper-holds}
-use Rattle.right_fused.proofs.lemmas.Lists.{member}
+use Rattle.right_pruned.proofs.lemmas.Lists.{member}
 use Rattle.right_inlined.proofs.MovedRules.{renamed, KeepsPart, part-none, part-first, part-rest, part-append, part-moved}
 use Rattle.right_inlined.proofs.HelperCalls.{HasHelper, has-helper, leaf-names}
 

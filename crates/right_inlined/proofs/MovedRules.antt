@@ -17,7 +17,8 @@ use Rattle.emit_shape.specs.Rules.{passed, IsRightCall, store_reads, index_reads
 use Rattle.emit_pruned.proofs.lemmas.Numbers.{all-left, all-right, all-both, each-both}
 use Rattle.emit_inlined.specs.Inlined as inlined
 use Rattle.emit_inlined.specs.Inlined.{moved_leaf, moved_expr, moved_cond, moved_stmts}
-use Rattle.right_fused.proofs.lemmas.Lists.{each-map, map-each, zip-map}
+use Rattle.right_pruned.proofs.lemmas.Lists.{each-map, zip-map}
+use Rattle.right_fused.proofs.lemmas.Lists.{map-each}
 use Rattle.right_inlined.proofs.MovedSites.{expr-leaves, cond-leaves, moved_store, moved_index, moved_call, stores-moved, tests-moved, calls-moved, indices-moved}
 use Rattle.right_inlined.proofs.LawfulSites.{IsInside, ExprInside, CondInside, StoreInside, IndexInside, CallInside, stores-inside, tests-inside, calls-inside, indices-inside}
 

@@ -1,3 +1,4 @@
+pub mod lemmas
 mod PrunedPlaces
 mod PrunedBodies
 mod PrunedRules

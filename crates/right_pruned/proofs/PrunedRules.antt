@@ -3,6 +3,7 @@ use Rattle.std.specs.Prelude.{◌≡◌, ℕ, ◌<◌, ◌≤◌, not, ◌||◌,
 use Rattle.std.specs.List.{AllByRecursion}
 use Rattle.std.proofs.Common.{refl, sym, ap, ap₂, subst, ◌∙◌}
 use Rattle.std.proofs.lemmas.List.Folds.{flat_map-map}
+use Rattle.std.proofs.lemmas.Simd.{map-map}
 use Rattle.diagram_blocks.specs.Meaning.{has_value}
 use Rattle.diagram_blocks.specs.Kinds.{is_reset_outport}
 use Rattle.modules_profile.specs.declared.ChildUse.{ChildUse}
@@ -22,7 +23,8 @@ use Rattle.emit_shape.specs.Used.{tested_in, AreUsed}
 use Rattle.emit_shape.specs.Stored.{stored_on, stored_in, stored_names}
 use Rattle.emit_pruned.specs.Pruned.{renumbered_expr, renumbered_cond, renumbered_procedure}
 use Rattle.emit_pruned.proofs.lemmas.Numbers.{each-then}
-use Rattle.right_pruned.proofs.PrunedBodies.{each-map, zip-map, filter-map, map-map, count-map, expr-leaves, cond-leaves, moved_store, moved_index, moved_call, stores-moved, tests-moved, calls-moved, indices-moved, flat-moved}
+use Rattle.right_pruned.proofs.lemmas.Lists.{each-map, zip-map, filter-map}
+use Rattle.right_pruned.proofs.PrunedBodies.{count-map, expr-leaves, cond-leaves, moved_store, moved_index, moved_call, stores-moved, tests-moved, calls-moved, indices-moved, flat-moved}
 
 module _ (place : ℕ → ℕ) where
   abbrev move : ProcedureTree → ProcedureTree

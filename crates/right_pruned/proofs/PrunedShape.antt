@@ -4,6 +4,7 @@ use Rattle.std.specs.List.{AllByRecursion, AllZip, list_any, enumerate_from}
 use Rattle.std.proofs.Common.{refl, sym, ap, subst, ◌∙◌, arith}
 use Rattle.std.proofs.lemmas.List.{length-map}
 use Rattle.std.proofs.lemmas.List.Sorted.{IsPermutation-map}
+use Rattle.std.proofs.lemmas.Simd.{map-map}
 use Rattle.diagram_meaning.specs.Rows.{outports_of, system_control}
 use Rattle.diagram_meaning.specs.Inputs.{input_ports}
 use Rattle.diagram_meaning.specs.Diagram.{Diagram}
@@ -37,7 +38,8 @@ use Rattle.emit_pruned.specs.Calls.{expr_functions}
 use Rattle.emit_pruned.specs.Pruned.{renumbered_expr, renumbered_stmt, renumbered_stmts, renumbered_pure, renumbered_procedure, kept_from}
 use Rattle.emit_pruned.proofs.lemmas.Numbers.{each-then}
 use Rattle.emit_pruned.proofs.lemmas.SameRuns.{Agree, expr-same}
-use Rattle.right_pruned.proofs.PrunedBodies.{each-map, member, zip-map, filter-map, map-map, expr-leaves, exprs-list, stmts-list}
+use Rattle.right_pruned.proofs.lemmas.Lists.{each-map, member, zip-map, filter-map}
+use Rattle.right_pruned.proofs.PrunedBodies.{expr-leaves, exprs-list, stmts-list}
 use Rattle.right_pruned.proofs.PrunedRules.{read-moved, keeps, once-moved, used-moved, stored-moved}
 use Rattle.right_pruned.proofs.PrunedPlaces.{q, same-outs}
 

@@ -2,6 +2,7 @@
 use Rattle.std.specs.Prelude.{◌≡◌, ℕ, ◌+◌, ◌<◌, ◌≤◌, not, Bool, true, false, ◌||◌, List, map, length, slice_get, Contains, Option, Some, unwrap_or}
 use Rattle.std.specs.List.{range_with_len}
 use Rattle.std.proofs.Common.{sym, ap, subst, ◌∙◌, arith}
+use Rattle.std.proofs.lemmas.Simd.{map-map}
 use Rattle.diagram_meaning.specs.Diagram.{Diagram}
 use Rattle.diagram_meaning.specs.Needs.{AreTrueNeeds}
 use Rattle.modules_profile.specs.Functions.{functions_for}
@@ -16,7 +17,7 @@ use Rattle.emit_shape.specs.Faces.{out_places}
 use Rattle.emit_shape.specs.Programs.{procedure_place}
 use Rattle.c_refinement.specs.Laws.{KeepsNamed}
 use Rattle.right_refined.specs.Refined.{with_procedures, is_offered, OffersSame}
-use Rattle.right_refined.proofs.Lists.{map-same, map-map, name-place}
+use Rattle.right_refined.proofs.Lists.{map-same, name-place}
 use Rattle.right_refined.proofs.OutCounts.{counted}
 use Rattle.right_refined.proofs.PublicProcedures.{IsShaped, StandsNamed, place-is, start-stands, step-stands, count, count-is, needs, are-needs, out-stands, update-stands, start_procedure-stands, reset-stands}
 

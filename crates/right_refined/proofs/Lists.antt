@@ -25,10 +25,6 @@ pub map-same : (f g : ℕ → ℕ) (xs : List ℕ) → ((x : ℕ) → Contains x
 map-same f g [] each = refl
 map-same f g (x ∷ xs) each = λ i. each x (in-first x xs) i ∷ map-same f g xs (λ y has. each y (in-rest x y xs has)) i
 
-pub map-map : (g f : ℕ → ℕ) (xs : List ℕ) → map g (map f xs) ≡ map (λ x. g (f x)) xs
-map-map g f [] = refl
-map-map g f (x ∷ xs) = ap (λ ys. g (f x) ∷ ys) (map-map g f xs)
-
 -- of elements with different names, the one at a place is the first with its name
 pub name-place : {A : Type 0} (name : A → List ℕ) (xs : List A) (k : ℕ) (x : A) (wanted : List ℕ) → AreDistinct (map name xs) →
     slice_get xs k ≡ Some x → name x ≡ wanted → position_from (λ y. bytes_eq (name y) wanted) 0 xs ≡ Some k

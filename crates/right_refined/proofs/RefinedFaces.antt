@@ -3,6 +3,7 @@ use Rattle.std.specs.Prelude.{◌≡◌, ℕ, ◌+◌, Bool, true, false, cond, 
 use Rattle.std.specs.List.{list_any, enumerate_from}
 use Rattle.std.proofs.Common.{sym, ap, ◌∙◌}
 use Rattle.std.proofs.lemmas.Option.{get_or_from_slice_get}
+use Rattle.std.proofs.lemmas.Simd.{map-map}
 use Rattle.base_core.specs.Ports.{ports_mask}
 use Rattle.diagram_meaning.specs.Diagram.{Diagram}
 use Rattle.diagram_meaning.specs.Inputs.{input_ports}
@@ -14,7 +15,7 @@ use Rattle.emit_shape.specs.Heads.{Head}
 use Rattle.emit_shape.specs.Names.{port_name, value_name}
 use Rattle.emit_shape.specs.Programs.{no_procedure}
 use Rattle.right_refined.specs.Refined.{with_procedures, OffersSame}
-use Rattle.right_refined.proofs.Lists.{map-same, map-map}
+use Rattle.right_refined.proofs.Lists.{map-same}
 use Rattle.right_refined.proofs.KeptPlaces.{OfferedAt, KeepsSystem}
 
 -- ---- Lists

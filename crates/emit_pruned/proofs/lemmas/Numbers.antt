@@ -3,17 +3,10 @@ use Rattle.std.specs.Prelude.{◌≡◌, ℕ, suc, ◌==◌, ◌||◌, Bool, tru
 use Rattle.std.specs.List.{AllByRecursion}
 use Rattle.std.proofs.Common.{refl, sym, ap, ◌∙◌, arith}
 use Rattle.std.proofs.lemmas.Bool.Decides.{nat_tests}
+pub use Rattle.c_renaming.proofs.lemmas.TwoLists.{all-left, all-right}
 use Rattle.emit_pruned.specs.Needed.{has_number}
 
 module _ {A : Type 0} (P : A → Type 0) where
-  pub all-left : (xs ys : List A) → AllByRecursion P (xs ++ ys) → AllByRecursion P xs
-  all-left [] ys h = tt
-  all-left (x ∷ xs) ys h = (h.0, all-left xs ys h.1)
-
-  pub all-right : (xs ys : List A) → AllByRecursion P (xs ++ ys) → AllByRecursion P ys
-  all-right [] ys h = h
-  all-right (x ∷ xs) ys h = all-right xs ys h.1
-
   pub all-both : (xs ys : List A) → AllByRecursion P xs → AllByRecursion P ys → AllByRecursion P (xs ++ ys)
   all-both [] ys h g = g
   all-both (x ∷ xs) ys h g = (h.0, all-both xs ys h.1 g)
@@ -21,7 +14,7 @@ module _ {A : Type 0} (P : A → Type 0) where
   pub all-parts : {B : Type 0} (f : B → List A) (bs : List B) → AllByRecursion P (flat_map f bs) →
       AllByRecursion (λ b. AllByRecursion P (f b)) bs
   all-parts f [] h = tt
-  all-parts f (b ∷ bs) h = (all-left (f b) (flat_map f bs) h, all-parts f bs (all-right (f b) (flat_map f bs) h))
+  all-parts f (b ∷ bs) h = (all-left P (f b) (flat_map f bs) h, all-parts f bs (all-right P (f b) (flat_map f bs) h))
 
   pub all-whole : {B : Type 0} (f : B → List A) (bs : List B) → AllByRecursion (λ b. AllByRecursion P (f b)) bs →
       AllByRecursion P (flat_map f bs)

@@ -1,4 +1,4 @@
--- What holds of each item of a list that is mapped, filtered, or paired with another, and how many items pass a test.
+-- What holds of each item of a list that is made by a map, of those that fail a test, or of a list beside another, and how many items pass a test.
 use Rattle.std.specs.Prelude.{◌≡◌, ◌+◌, ◌||◌, not, nat_lt, Bool, true, false, cond, List, [], ◌∷◌, ◌++◌, map, filter, flat_map, count_by, Contains}
 use Rattle.std.specs.List.{AllByRecursion, AllZip, list_any}
 use Rattle.std.proofs.Common.{refl, sym, ap, ap₂, subst, ◌∙◌, inl, inr, arith}
@@ -9,19 +9,10 @@ use Rattle.modules_profile.proofs.lemmas.Members.{in-none, in-cases, in-first, i
 
 -- ---- Each item
 
-pub each-map : {A B : Type 0} (f : A → B) (P : A → Type 0) (Q : B → Type 0) (xs : List A) → ((x : A) → P x → Q (f x)) →
-    AllByRecursion P xs → AllByRecursion Q (map f xs)
-each-map f P Q [] next h = tt
-each-map f P Q (x ∷ xs) next h = (next x h.0, each-map f P Q xs next h.1)
-
 pub map-each : {A B : Type 0} (f : A → B) (Q : B → Type 0) (xs : List A) → AllByRecursion Q (map f xs) →
     AllByRecursion (λ x. Q (f x)) xs
 map-each f Q [] h = tt
 map-each f Q (x ∷ xs) h = (h.0, map-each f Q xs h.1)
-
-pub member : {A : Type 0} (P : A → Type 0) (xs : List A) (x : A) → AllByRecursion P xs → Contains xs x → P x
-member P [] x all has = absurd (in-none x has)
-member P (y ∷ ys) x all has = elim (in-cases y x ys has) [ inl same ↦ subst P same all.0 | inr more ↦ member P ys x all.1 more ]
 
 pub each-in : {A : Type 0} (P : A → Type 0) (xs : List A) → ((x : A) → Contains xs x → P x) → AllByRecursion P xs
 each-in P [] holds = tt
@@ -41,14 +32,6 @@ each-by {A} P test (x ∷ xs) passes h = by (test x) refl h (each-by P test xs p
 
 -- ---- Two lists
 
-pub zip-map : {A B C : Type 0} (f : B → C) (R : A → B → Type 0) (S : A → C → Type 0) →
-    ((a : A) (b : B) → R a b → S a (f b)) → (firsts : List A) (bs : List B) → AllZip R firsts bs →
-    AllZip S firsts (map f bs)
-zip-map f R S next [] [] h = tt
-zip-map f R S next [] (b ∷ bs) h = absurd h
-zip-map f R S next (a ∷ firsts) [] h = absurd h
-zip-map f R S next (a ∷ firsts) (b ∷ bs) h = (next a b h.0, zip-map f R S next firsts bs h.1)
-
 pub zip-each : {A B : Type 0} (R : A → B → Type 0) (P : B → Type 0) → ((a : A) (b : B) → R a b → P b) →
     (firsts : List A) (bs : List B) → AllZip R firsts bs → AllByRecursion P bs
 zip-each R P next [] [] h = tt
@@ -64,20 +47,6 @@ zip-push R (a ∷ xs) [] x y h one = absurd h
 zip-push R (a ∷ xs) (b ∷ ys) x y h one = (h.0, zip-push R xs ys x y h.1 one)
 
 -- ---- Lists that are mapped
-
-pub map-map : {A B C : Type 0} (g : B → C) (f : A → B) (xs : List A) → map g (map f xs) ≡ map (λ x. g (f x)) xs
-map-map g f [] = refl
-map-map g f (x ∷ xs) = ap (λ ys. g (f x) ∷ ys) (map-map g f xs)
-
-pub filter-map : {A B : Type 0} (f : A → B) (test : B → Bool) (xs : List A) → filter test (map f xs) ≡ map f (filter (λ x. test (f x)) xs)
-filter-map f test [] = refl
-filter-map {A = A} f test (x ∷ xs) = by (test (f x)) (filter-map f test xs)
-  where
-    by : (b : Bool) → filter test (map f xs) ≡ map f (filter (λ y. test (f y)) xs) →
-        cond b (f x ∷ filter test (map f xs)) (filter test (map f xs))
-        ≡ map f (cond b (x ∷ filter (λ y. test (f y)) xs) (filter (λ y. test (f y)) xs))
-    by true e = ap (λ ys. f x ∷ ys) e
-    by false e = e
 
 -- tests that agree at each item keep the same
 pub filter-same : {A : Type 0} (test other : A → Bool) (xs : List A) → AllByRecursion (λ x. test x ≡ other x) xs →

@@ -1,4 +1,4 @@
-use Rattle.std.proofs.Common.{◌≡◌, ◌≤◌, ◌∙◌, length, map, rules}
+use Rattle.std.proofs.Common.{◌≤◌, ◌∙◌, length, map, rules}
 use Rattle.c_syntax.specs.Plain.{pure_tree}
 use Rattle.c_renaming.specs.Renamed.{renamed_pure}
 use Rattle.c_renaming.proofs.PartlyMapped.{mapped-next, all-mapped}

@@ -1,4 +1,4 @@
-use Rattle.std.proofs.Common.{◌≤◌, length, arith, rules, sym, ap, ap₂, ◌∙◌, map}
+use Rattle.std.proofs.Common.{◌≤◌, length, rules, sym, ap, ap₂, ◌∙◌, map}
 use Rattle.c_syntax.specs.Tree.{ExprTree, pure, exprs_of_list}
 use Rattle.c_syntax.specs.Plain.{expr_tree}
 use Rattle.c_syntax.proofs.lemmas.PlainLaws.{expr_tree-Pure}

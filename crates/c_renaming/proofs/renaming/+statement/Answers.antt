@@ -1,5 +1,5 @@
-use Rattle.std.proofs.Common.{◌≤◌, length, arith, rules, sym, ap, ◌∙◌, map}
-use Rattle.c_syntax.specs.Tree.{StmtTree, branch, stmts_of_list}
+use Rattle.std.proofs.Common.{◌≤◌, length, rules, sym, ap, ◌∙◌, map}
+use Rattle.c_syntax.specs.Tree.{branch, stmts_of_list}
 use Rattle.c_syntax.specs.Plain.{cond_tree, stmt_tree}
 use Rattle.c_syntax.proofs.lemmas.PlainLaws.{stmt_tree-If}
 use Rattle.c_renaming.specs.Renamed.{renamed_cond, renamed_stmt, renamed_stmts}

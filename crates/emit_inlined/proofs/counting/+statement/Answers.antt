@@ -3,10 +3,10 @@ use Rattle.c_syntax.specs.declared.code.Stmt.{Stmt}
 use Rattle.c_syntax.specs.Tree.{stmts_of_list}
 use Rattle.c_syntax.specs.Plain.{stmt_tree}
 use Rattle.c_syntax.proofs.lemmas.PlainLaws.{stmt_tree-If}
+use Rattle.c_renaming.proofs.lemmas.OneByOne.{done-more, done-all}
 use Rattle.emit_inlined.specs.Inlined.{stmt_calls, stmts_calls}
 use Rattle.emit_inlined.specs.Steps.{counted}
-use Rattle.emit_inlined.proofs.CountLaws.{counted-append}
-use Rattle.emit_inlined.proofs.OneByOne.{done-more, done-all, stmts-flat}
+use Rattle.emit_inlined.proofs.CountLaws.{counted-append, stmts-flat}
 use Rattle.emit_inlined.proofs.counting.+statement.Goals as goal
 
 pub count_stmt-returns-in-If : goal.count_stmt-returns-in-If

@@ -4,10 +4,10 @@ use Rattle.c_syntax.specs.declared.code.Stmt.{Stmt}
 use Rattle.c_syntax.specs.declared.program.Procedure.{Procedure}
 use Rattle.c_syntax.specs.Tree.{ProcedureTree, stmts_of_list}
 use Rattle.c_syntax.specs.Plain.{stmt_tree, procedure_tree}
+use Rattle.c_renaming.proofs.lemmas.OneByOne.{done-more, done-all, procedures-flat}
 use Rattle.emit_inlined.specs.Inlined.{stmts_calls}
 use Rattle.emit_inlined.specs.Steps.{counted}
 use Rattle.emit_inlined.proofs.CountLaws.{counted-append}
-use Rattle.emit_inlined.proofs.OneByOne.{done-more, done-all, procedures-flat}
 use Rattle.emit_inlined.proofs.counting.count_procedures.Goals as goal
 
 pub loop-q-preserved : goal.loop-q-preserved

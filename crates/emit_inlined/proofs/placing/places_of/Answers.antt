@@ -1,7 +1,8 @@
 use Rattle.std.proofs.Common.{◌≡◌, ◌+◌, ◌∷◌, [], ◌++◌, length, Bool, true, false, not, ℕ, refl, sym, ap, ◌∙◌, if◌then◌else◌, arith}
 use Rattle.emit_pruned.specs.Marks.{flag_at}
+use Rattle.emit_pruned.proofs.lemmas.Places.{counts-more, kept-more}
 use Rattle.emit_inlined.specs.Steps.{is_kept}
-use Rattle.emit_inlined.proofs.FlagLaws.{counts-more, kept-more, placed}
+use Rattle.emit_inlined.proofs.PlaceLaws.{placed}
 use Rattle.emit_inlined.proofs.placing.places_of.Goals as goal
 
 -- a position is counted among those that stay, or among the others

@@ -1,7 +1,7 @@
 use Rattle.std.proofs.Common.{◌≡◌, ◌+◌}
 use Rattle.emit_inlined.specs.Inlined.{kept_before}
 use Rattle.emit_inlined.specs.Steps.{is_kept}
-use Rattle.emit_inlined.proofs.FlagLaws.{counts}
+use Rattle.emit_pruned.proofs.lemmas.Places.{counts}
 use Rattle.emit_inlined.proofs.placing.places_of.Given as goal
 
 abbrev pub invariant-loop-is_inlined : goal.invariant-loop-is_inlined

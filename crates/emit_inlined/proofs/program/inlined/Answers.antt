@@ -5,10 +5,10 @@ use Rattle.std.proofs.lemmas.List.{length-map}
 use Rattle.c_syntax.specs.declared.program.Procedure.{Procedure}
 use Rattle.c_syntax.specs.Plain.{procedure_tree, program_tree}
 use Rattle.emit_pruned.specs.Marks.{flag_at}
+use Rattle.emit_pruned.proofs.lemmas.Flags.{flags-length}
 use Rattle.emit_inlined.specs.Inlined.{is_helper, stays, kept_before, kept_from, place}
 use Rattle.emit_inlined.specs.Steps.{counts_of, helper_at, helpers_of, inlined_flags, is_kept, place_in, procedure_by}
 use Rattle.emit_inlined.proofs.CountLaws.{counts-length}
-use Rattle.emit_inlined.proofs.FlagLaws.{flags-length}
 use Rattle.emit_inlined.proofs.FoundHelpers.{helper-found, kept-as, as-inlined}
 use Rattle.emit_inlined.proofs.program.inlined.Goals as goal
 

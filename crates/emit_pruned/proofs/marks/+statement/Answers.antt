@@ -3,9 +3,11 @@ use Rattle.c_syntax.specs.declared.code.Stmt.{Stmt}
 use Rattle.c_syntax.specs.Tree.{stmts_of_list}
 use Rattle.c_syntax.specs.Plain.{cond_tree, stmt_tree}
 use Rattle.c_syntax.proofs.lemmas.PlainLaws.{stmt_tree-If}
+use Rattle.c_renaming.proofs.lemmas.OneByOne.{done-more}
 use Rattle.emit_pruned.specs.Calls.{cond_functions, stmt_functions, stmts_functions}
 use Rattle.emit_pruned.specs.Marks.{marked}
-use Rattle.emit_pruned.proofs.FlagLaws.{marked_two, marked-more, stmts-done}
+use Rattle.emit_pruned.proofs.lemmas.Flags.{marked_append}
+use Rattle.emit_pruned.proofs.FlagLaws.{marked_two, stmts-done}
 use Rattle.emit_pruned.proofs.marks.+statement.Goals as goal
 
 pub mark_stmt-returns-in-If : goal.mark_stmt-returns-in-If
@@ -29,7 +31,7 @@ mark_stmt-returns-in-If t c =
 
 pub mark_stmts-loop-s-preserved : goal.mark_stmts-loop-s-preserved
 mark_stmts-loop-s-preserved t c =
-    marked-more (λ (s : Stmt). stmt_functions (stmt_tree s)) c.args.ss.now c.loop-s.s-index c.s-item.result c.args.needed.now
+    done-more marked marked_append (λ (s : Stmt). stmt_functions (stmt_tree s)) c.args.ss.now c.loop-s.s-index c.s-item.result c.args.needed.now
     c.loop-s.needed c.mark_stmt.new.needed
     (omega (arith, c.loop-s-test.true)) c.s-item.is c.loop-s.invariant c.mark_stmt.ensures
 

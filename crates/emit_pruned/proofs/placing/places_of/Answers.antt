@@ -1,6 +1,7 @@
 use Rattle.std.proofs.Common.{◌≡◌, ◌+◌, ◌∷◌, [], ◌++◌, length, sym, ap, ◌∙◌, if◌then◌else◌, arith}
 use Rattle.emit_pruned.specs.Marks.{flag_at}
-use Rattle.emit_pruned.proofs.PlaceLaws.{counts-more, kept-more, placed}
+use Rattle.emit_pruned.proofs.lemmas.Places.{counts-more, kept-more}
+use Rattle.emit_pruned.proofs.PlaceLaws.{placed}
 use Rattle.emit_pruned.proofs.placing.places_of.Goals as goal
 
 pub loop-is_needed-preserved : goal.loop-is_needed-preserved

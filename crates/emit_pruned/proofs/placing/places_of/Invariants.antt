@@ -1,7 +1,7 @@
 use Rattle.std.proofs.Common.{◌≡◌}
 use Rattle.emit_pruned.specs.Marks.{flag_at}
 use Rattle.emit_pruned.specs.Pruned.{kept_before}
-use Rattle.emit_pruned.proofs.PlaceLaws.{counts}
+use Rattle.emit_pruned.proofs.lemmas.Places.{counts}
 use Rattle.emit_pruned.proofs.placing.places_of.Given as goal
 
 abbrev pub invariant-loop-is_needed : goal.invariant-loop-is_needed

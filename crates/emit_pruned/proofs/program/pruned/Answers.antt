@@ -6,7 +6,8 @@ use Rattle.emit_pruned.specs.Calls.{procedures_functions}
 use Rattle.emit_pruned.specs.Needed.{has_number, needed_from, is_needed}
 use Rattle.emit_pruned.specs.Marks.{flag_at, flags_of, needed_flags, place_in}
 use Rattle.emit_pruned.specs.Pruned.{kept_before, kept_from, renumbered_pure, renumbered_procedure}
-use Rattle.emit_pruned.proofs.FlagLaws.{flags-are, flags-length}
+use Rattle.emit_pruned.proofs.lemmas.Flags.{flags-length}
+use Rattle.emit_pruned.proofs.FlagLaws.{flags-are}
 use Rattle.emit_pruned.proofs.program.pruned.Goals as goal
 
 pub kept_pures-requires : goal.kept_pures-requires

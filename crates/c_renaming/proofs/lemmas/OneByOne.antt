@@ -3,11 +3,9 @@ use Rattle.std.specs.Prelude.{◌≡◌, ℕ, ◌+◌, ◌<◌, ◌≤◌, List,
 use Rattle.std.proofs.Common.{refl, sym, ap, ◌∙◌, take, get_or}
 use Rattle.std.proofs.lemmas.List.{append-nil, take_all, take_more}
 use Rattle.std.proofs.lemmas.Grind.{flat_map-append}
-use Rattle.c_syntax.specs.declared.code.Stmt.{Stmt}
 use Rattle.c_syntax.specs.declared.program.Procedure.{Procedure}
-use Rattle.c_syntax.specs.Tree.{ProcedureTree, stmts_of_list}
-use Rattle.c_syntax.specs.Plain.{stmt_tree, procedure_tree}
-use Rattle.emit_inlined.specs.Inlined.{stmt_calls, stmts_calls}
+use Rattle.c_syntax.specs.Tree.{ProcedureTree}
+use Rattle.c_syntax.specs.Plain.{procedure_tree}
 
 -- something is done for each of some positions; what is done for two lists of them is done for one and then for the other
 module _ {S : Type 0} (act : S → List ℕ → S)
@@ -28,13 +26,7 @@ module _ {S : Type 0} (act : S → List ℕ → S)
   done-all f xs i first last ks all same is =
       is ∙ ap (λ ys. act first (flat_map f ys)) (take_all i xs all) ∙ ap (act first) same
 
--- ---- Members
-
-pub stmts-flat : (ss : List Stmt) →
-    flat_map (λ s. stmt_calls (stmt_tree s)) ss ≡ stmts_calls (stmts_of_list (map stmt_tree ss))
-stmts-flat [] = refl
-stmts-flat (s ∷ ss) = ap (λ ks. stmt_calls (stmt_tree s) ++ ks) (stmts-flat ss)
-
+-- members of procedures
 pub procedures-flat : (f : ProcedureTree → List ℕ) (qs : List Procedure) →
     flat_map (λ q. f (procedure_tree q)) qs ≡ flat_map f (map procedure_tree qs)
 procedures-flat f [] = refl

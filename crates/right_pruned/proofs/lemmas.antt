@@ -1,0 +1,3 @@
+-- Lemmas that proofs of the crates above use.
+pub mod Lists
+pub mod RenamedSites
