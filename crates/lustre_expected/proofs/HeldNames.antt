@@ -1,17 +1,17 @@
 -- Names with numbers: where the names are different, the number at the place of a name is the one that stands with it.
-use Rattle.std.proofs.Common.{◌≡◌, refl, sym, ap, ◌∙◌, subst, ℕ, suc, ◌+◌, Bool, true, false, ◌||◌, cond, List, [], ◌∷◌, ◌++◌, length, map, slice_index_or, Option, Some, None, unwrap_or, bytes_eq, ℤ, arith, inl, inr}
+use Rattle.std.proofs.Common.{◌≡◌, refl, sym, ap, ◌∙◌, subst, ℕ, Bool, true, false, List, [], ◌∷◌, ◌++◌, length, map, Option, Some, None, ℤ}
 use Rattle.std.specs.Prelude.{Contains}
-use Rattle.std.specs.List.{position_from, flat_map}
+use Rattle.std.specs.List.{flat_map}
 use Rattle.std.proofs.lemmas.List.{map-append, length-map}
-use Rattle.std.proofs.lemmas.Slice.Eq.{bytes_eq-Decides}
-use Rattle.c_syntax.specs.Outputs.{has_name}
+use Rattle.std.proofs.lemmas.Option.{get_or_from_slice_get}
+use Rattle.modules_profile.proofs.lemmas.Members.{at-map, of-map}
 use Rattle.lustre_syntax.specs.Lawful.{AreDistinct}
 use Rattle.lustre_syntax.specs.Named.{place_of}
 use Rattle.lustre_syntax.specs.Tree.{Declared, texts_of}
 use Rattle.lustre_flows.specs.Values.{value_at}
 use Rattle.lustre_system.specs.Functions.{int_name}
 use Rattle.lustre_system.specs.RowEquations.{only_if}
-use Rattle.lustre_expected.proofs.Members.{IsIn, from-map, contains-in}
+use Rattle.lustre_rows.proofs.lemmas.NamePlaces.{at-name}
 
 -- a name, and the number that it has
 pub record Held : Type 0 where
@@ -29,64 +29,23 @@ numbers hs = map (λ (h : Held). Some h.number) hs
 
 -- ---- Places
 
-name-there : (hs : List Held) (h : Held) (text : List ℕ) → IsIn hs h → bytes_eq text h.text ≡ true → has_name (texts hs) text ≡ true
-name-there [] h text here same = absurd here
-name-there (g ∷ gs) h text (inl is) same =
-    ap (λ b. b || has_name (texts gs) text) (ap (λ (k : Held). bytes_eq text k.text) is ∙ same)
-name-there (g ∷ gs) h text (inr later) same =
-    either-way (bytes_eq text g.text) (has_name (texts gs) text) (name-there gs h text later same)
-  where
-    either-way : (a b : Bool) → b ≡ true → (a || b) ≡ true
-    either-way true b is = refl
-    either-way false b is = is
-
--- a later name is another one
-name-differs : (g h : Held) (gs : List Held) → has_name (texts gs) g.text ≡ false → IsIn gs h → bytes_eq h.text g.text ≡ false
-name-differs g h gs new later = by (bytes_eq h.text g.text) refl
-  where
-    by : (b : Bool) → bytes_eq h.text g.text ≡ b → b ≡ false
-    by true is =
-        let same : h.text ≡ g.text = (bytes_eq-Decides h.text g.text).0 is in
-        let there = name-there gs h g.text later ((bytes_eq-Decides g.text h.text).1 (sym same)) in
-        sym there ∙ new
-    by false is = refl
-
-placed : (hs : List Held) (h : Held) (k : ℕ) → AreDistinct (texts hs) → IsIn hs h →
-    (i : ℕ) × (position_from (bytes_eq h.text) k (texts hs) ≡ Some (k + i)) × (slice_index_or (numbers hs) i None ≡ Some h.number)
-placed [] h k distinct here = absurd here
-placed (g ∷ gs) h k distinct (inl same) = (
-  0,
-  ap (λ b. cond b (Some k) (position_from (bytes_eq h.text) (k + 1) (texts gs)))
-      ((bytes_eq-Decides h.text g.text).1 (ap (λ (x : Held). x.text) (sym same)))
-      ∙ ap Some (let e : k ≡ k + 0 = omega arith in e),
-  ap (λ (x : Held). Some x.number) same,
-)
-placed (g ∷ gs) h k distinct (inr later) =
-    let (i, at, is) = placed gs h (k + 1) distinct.2 later in (
-      suc i,
-      ap (λ b. cond b (Some k) (position_from (bytes_eq h.text) (k + 1) (texts gs))) (name-differs g h gs distinct.1 later)
-          ∙ at ∙ ap Some (let e : k + 1 + i ≡ k + suc i = omega arith in e),
-      is,
-    )
-
 -- the number that stands with a name
-pub number-found : (ts : List (List ℕ)) (hs : List Held) (h : Held) → texts hs ≡ ts → AreDistinct ts → IsIn hs h →
+pub number-found : (ts : List (List ℕ)) (hs : List Held) (h : Held) → texts hs ≡ ts → AreDistinct ts → Contains hs h →
     value_at (numbers hs) (place_of ts h.text) ≡ Some h.number
 number-found ts hs h same distinct here =
     subst (λ (us : List (List ℕ)). value_at (numbers hs) (place_of us h.text) ≡ Some h.number) same found
   where
     found : value_at (numbers hs) (place_of (texts hs) h.text) ≡ Some h.number
     found =
-        let (i, at, is) = placed hs h 0 (subst AreDistinct (sym same) distinct) here in
-        ap (λ (o : Option ℕ). value_at (numbers hs) (unwrap_or o (length (texts hs)))) at
-        ∙ ap (value_at (numbers hs)) (let e : 0 + i ≡ i = omega arith in e) ∙ is
+        let i = place_of (texts hs) h.text in
+        get_or_from_slice_get (numbers hs) i (Some h.number) None (at-map (λ (x : Held). Some x.number) hs i h
+        (at-name (λ (x : Held). x.text) hs h (subst AreDistinct (sym same) distinct) here))
 
 -- each name has a number
 pub each-found : (ts : List (List ℕ)) (hs : List Held) → texts hs ≡ ts → AreDistinct ts → (text : List ℕ) → Contains ts text →
     (v : ℤ) × (value_at (numbers hs) (place_of ts text) ≡ Some v)
 each-found ts hs same distinct text there =
-    let (h, here, is) = from-map (λ (h : Held). h.text) hs text
-    (contains-in (texts hs) text (subst (λ (us : List (List ℕ)). Contains us text) (sym same) there)) in (
+    let (h, here, is) = of-map (λ (x : Held). x.text) hs text (subst (λ (us : List (List ℕ)). Contains us text) (sym same) there) in (
       h.number,
       subst (λ (w : List ℕ). value_at (numbers hs) (place_of ts w) ≡ Some h.number) is (number-found ts hs h same distinct here),
     )

@@ -1,5 +1,4 @@
-pub mod Members
-pub mod RowMembers
+pub mod Outports
 pub mod HeldNames
 pub mod PartNumbers
 pub mod SystemNames

@@ -20,8 +20,8 @@ use Rattle.lustre_system.specs.RowEquations.{only_if, memory_equations, value_eq
 use Rattle.lustre_system.specs.SystemNodes.{active_value, reset_value, trigger_memory, has_trigger, system_equations}
 use Rattle.lustre_rows.proofs.lemmas.Lists.{all-only, own-rows}
 use Rattle.lustre_right.specs.Paths.{callee_of}
-use Rattle.lustre_instances.proofs.Texts.{one-text}
-use Rattle.lustre_instances.proofs.KnownCalls.{memory-calls, value-calls}
+use Rattle.lustre_rows.proofs.lemmas.NamePlaces.{one-text}
+use Rattle.lustre_rows.proofs.lemmas.FunctionCalls.{memory-calls, value-calls}
 use Rattle.lustre_instances.proofs.ChildCalls.{child_call}
 
 -- ---- Names

@@ -9,7 +9,7 @@ use Rattle.lustre_settling.specs.Solutions.{EquationsHold, holding_at, holdings_
 use Rattle.lustre_settling.proofs.lemmas.Forms.{HasForm, HaveForms}
 use Rattle.lustre_settling.proofs.lemmas.Given.{times, times-same, times-append}
 use Rattle.lustre_right.specs.Paths.{callee_of, callees, call_place}
-use Rattle.lustre_instances.proofs.Texts.{found}
+use Rattle.lustre_rows.proofs.lemmas.NamePlaces.{found}
 
 first-one : (cb : Option Instances) → option_map first_call cb ≡ option_map (λ c. call_at c 0) cb
 first-one None = refl
@@ -104,21 +104,26 @@ module _ (nodes : List NodeTree) (before : Option (List (Option ℤ))) (vs : Lis
     pub named : slice_get (flat_map callee_of es) j ≡ Some callee
     pub is_call : IsCallAt cb cs given callee arguments j
 
+  -- the same call, among the equations after another one
+  moved : (cb cb' : Option Instances) (cs cs' : Instances) (e : EquationTree) (es : List EquationTree) (j k : ℕ)
+      (rest : CallBehind cb' cs' es k) → slice_get (flat_map callee_of (e ∷ es)) j ≡ Some rest.callee →
+      IsCallAt cb cs rest.given rest.callee rest.arguments j → CallBehind cb cs (e ∷ es) j
+  moved cb cb' cs cs' e es j k rest named is_call = record {
+    place = suc rest.place;
+    line = rest.line;
+    given = rest.given;
+    callee = rest.callee;
+    arguments = rest.arguments;
+    equation = rest.equation;
+    named = named;
+    is_call = is_call;
+  }
+
   pub call-behind : (cb : Option Instances) (cs : Instances) (es : List EquationTree) (j : ℕ) → Hold cb cs es → HaveForms nodes es cs →
       j < length (flat_map callee_of es) → CallBehind cb cs es j
   call-behind cb cs [] j hold form low = absurd (omega arith)
   call-behind cb cs (set l g x ∷ es) j hold form low =
-      let rest = call-behind cb cs es j hold.1 form low in
-      record {
-        place = suc rest.place;
-        line = rest.line;
-        given = rest.given;
-        callee = rest.callee;
-        arguments = rest.arguments;
-        equation = rest.equation;
-        named = rest.named;
-        is_call = rest.is_call;
-      }
+      let rest = call-behind cb cs es j hold.1 form low in moved cb cb cs cs (set l g x) es j j rest rest.named rest.is_call
   call-behind cb no_calls (call l g c xs ∷ es) j hold form low = absurd form
   call-behind cb (more_calls i is) (call l g c xs ∷ es) zero hold form low = record {
     place = 0;
@@ -132,16 +137,8 @@ module _ (nodes : List NodeTree) (before : Option (List (Option ℤ))) (vs : Lis
   }
   call-behind cb (more_calls i is) (call l g c xs ∷ es) (suc j) hold form low =
       let rest = call-behind (option_map later_calls cb) is es j hold.2 form.1 (omega arith) in
-      record {
-        place = suc rest.place;
-        line = rest.line;
-        given = rest.given;
-        callee = rest.callee;
-        arguments = rest.arguments;
-        equation = rest.equation;
-        named = rest.named;
-        is_call = later-call cb i is rest.given rest.callee rest.arguments j rest.is_call;
-      }
+      moved cb (option_map later_calls cb) (more_calls i is) is (call l g c xs) es (suc j) j rest rest.named
+      (later-call cb i is rest.given rest.callee rest.arguments j rest.is_call)
 
 -- calls are complete where each is
 pub complete-calls : (nodes : List NodeTree) (es : List EquationTree) (cs : Instances) → HaveForms nodes es cs →

@@ -1,45 +1,22 @@
 -- The call for a child among the equations of a system.
-use Rattle.std.specs.Prelude.{◌≡◌, ℕ, Bool, true, false, List, [], ◌∷◌, ◌++◌, length, map, flat_map, Contains, slice_get, Option, Some, None, refl}
-use Rattle.std.proofs.Common.{sym, ap, subst, ◌∙◌, arith, inl, inr, true≢false}
-use Rattle.std.proofs.lemmas.Bool.{eq-eqb}
-use Rattle.std.proofs.lemmas.List.Elements.{Contains-append_left, Contains-append_right}
+use Rattle.std.specs.Prelude.{◌≡◌, ℕ, true, List, [], ◌∷◌, ◌++◌, map, flat_map, Contains, slice_get, Option, Some}
+use Rattle.std.proofs.lemmas.List.Elements.{Contains-append_right}
 use Rattle.diagram_blocks.specs.Kinds.{is_subsystem, is_delay}
 use Rattle.diagram_blocks.specs.Meaning.{has_value}
-use Rattle.diagram_meaning.specs.declared.Row.{Row}
-use Rattle.diagram_meaning.specs.Rows.{row_at, row_numbers, rows_of, outports_of, same_system}
+use Rattle.diagram_meaning.specs.Rows.{row_at, rows_of, outports_of}
 use Rattle.diagram_meaning.specs.Inputs.{input_ports}
 use Rattle.diagram_meaning.specs.Diagram.{Diagram, op_at}
 use Rattle.diagram_meaning.specs.SystemRuns.{IsRowOf}
 use Rattle.modules_profile.specs.Systems.{system_name, entering_wire}
-use Rattle.modules_profile.proofs.lemmas.Members.{in-none, in-first, in-rest, in-cases, in-filter, in-range, at-in}
+use Rattle.modules_profile.proofs.lemmas.Members.{in-first, in-rest, at-in}
+use Rattle.modules_profile.proofs.lemmas.PortRows.{in-rows}
 use Rattle.emit_shape.specs.Names.{value_name, now_name, trigger_name}
 use Rattle.lustre_syntax.specs.Tree.{name, set, call}
 use Rattle.lustre_syntax.specs.Named.{NamedExpr, NamedEquation}
 use Rattle.lustre_system.specs.Names.{active_name, reset_name}
 use Rattle.lustre_system.specs.RowEquations.{only_if, memory_equations, value_equations, child_equations, row_equations, wire_read}
 use Rattle.lustre_system.specs.SystemNodes.{active_value, reset_value, trigger_memory, has_trigger, system_equations}
-
-in-joined : {A B : Type 0} (f : A → List B) (xs : List A) (x : A) (y : B) → Contains xs x → Contains (f x) y → Contains (flat_map f xs) y
-in-joined f [] x y h there = absurd (in-none x h)
-in-joined f (z ∷ zs) x y h there = elim (in-cases z x zs h) [
-  | inl same ↦ Contains-append_left (f z) (flat_map f zs) y (subst (λ w. Contains (f w) y) (sym same) there)
-  | inr more ↦ Contains-append_right (f z) (flat_map f zs) y (in-joined f zs x y more there)
-]
-
-in-only : {A : Type 0} (b : Bool) (xs : List A) (x : A) → b ≡ true → Contains xs x → Contains (only_if b xs) x
-in-only true xs x on h = h
-in-only false xs x on h = absurd (true≢false (sym on))
-
-same-itself : (s : Option ℕ) → same_system s s ≡ true
-same-itself None = refl
-same-itself (Some e) = eq-eqb e e refl
-
--- a row of a system is among its rows
-pub in-rows : (rows : List Row) (s : Option ℕ) (e : ℕ) → IsRowOf rows s e → Contains (rows_of rows s) e
-in-rows rows s e row =
-    in-filter (λ b. same_system (row_at rows b).owner s) (row_numbers rows) e
-    (in-range 0 (length rows) e (omega arith) (let below = row.in_table in omega arith))
-    (ap (λ o. same_system o s) row.own ∙ same-itself s)
+use Rattle.lustre_rows.proofs.lemmas.Lists.{in-joined, in-only}
 
 -- the call for a child
 abbrev pub child_arguments : Diagram → Option ℕ → ℕ → List NamedExpr
@@ -68,4 +45,4 @@ child-there d s e row subsystem =
     (child_call d s e)
     (in-rest active (child_call d s e) (reset ∷ rows)
     (in-rest reset (child_call d s e) rows
-    (in-joined (row_equations d s) (rows_of d.rows s) e (child_call d s e) (in-rows d.rows s e row) own))))
+    (in-joined (row_equations d s) (rows_of d.rows s) e (child_call d s e) (in-rows d.rows s e row.in_table row.own) own))))

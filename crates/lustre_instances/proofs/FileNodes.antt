@@ -1,17 +1,13 @@
 -- The nodes of a model's file by their names.
-use Rattle.std.specs.Prelude.{◌≡◌, ℕ, zero, suc, ◌+◌, ◌-◌, ◌<◌, ◌&&◌, true, List, [], ◌∷◌, ◌++◌, map, reverse, length, slice_get, slice_index_or, Contains, Option, Some, None, refl}
-use Rattle.std.proofs.Common.{sym, ap, subst, ◌∙◌, arith, inl, inr, true≢false, length-append}
-use Rattle.std.proofs.lemmas.Bool.{cases_lt, and_from}
-use Rattle.std.proofs.lemmas.List.{reverse-append, get_or_past, length-map}
+use Rattle.std.specs.Prelude.{◌≡◌, ℕ, ◌+◌, ◌-◌, ◌<◌, List, [], ◌∷◌, ◌++◌, map, reverse, length, slice_get, Option, Some, refl}
+use Rattle.std.proofs.Common.{sym, ap, subst, ◌∙◌, arith, length-append}
+use Rattle.std.proofs.lemmas.List.{reverse-append, length-map}
 use Rattle.std.proofs.lemmas.List.Elements.{Contains-append_left, Contains-append_right}
-use Rattle.std.proofs.lemmas.Option.{get_or_from_slice_get}
-use Rattle.diagram_blocks.specs.Kinds.{is_subsystem}
-use Rattle.diagram_meaning.specs.declared.Row.{Row}
-use Rattle.diagram_meaning.specs.Rows.{no_row, row_at, row_numbers, is_inside}
+use Rattle.std.proofs.lemmas.Option.{get_or_from_slice_get, slice_get-get_or}
 use Rattle.diagram_meaning.specs.Diagram.{Diagram}
 use Rattle.diagram_typed_runs.specs.TypedRuns.{IsSystem}
-use Rattle.modules_profile.specs.Systems.{systems, systems_inside, system_name}
-use Rattle.modules_profile.proofs.lemmas.Members.{in-none, in-first, in-rest, in-cases, in-map, in-filter, in-range, at-in, at-below, at-map, at-left, at-right}
+use Rattle.modules_profile.specs.Systems.{systems, system_name}
+use Rattle.modules_profile.proofs.lemmas.Members.{in-map, at-in, at-below, at-map, at-left, at-right}
 use Rattle.emit_prelude.specs.Bodies.{function_trees}
 use Rattle.lustre_syntax.specs.Tree.{NodeTree, FileTree, no_node, node_at, node_texts}
 use Rattle.lustre_syntax.specs.Named.{NamedNode, placed_node, placed_file}
@@ -20,8 +16,11 @@ use Rattle.lustre_flows.specs.Ticks.{last_place}
 use Rattle.lustre_system.specs.Functions.{function_node, function_nodes}
 use Rattle.lustre_system.specs.SystemNodes.{system_node}
 use Rattle.lustre_system.specs.File.{root_node, named_file, lustre_file}
+use Rattle.lustre_rows.proofs.lemmas.Lists.{in-reverse}
+use Rattle.lustre_rows.proofs.lemmas.Systems.{in-systems}
 use Rattle.lustre_right.specs.Paths.{node_place}
-use Rattle.lustre_instances.proofs.Texts.{place-is, nodes-apart}
+use Rattle.lustre_rows.proofs.lemmas.NamePlaces.{place-at}
+use Rattle.lustre_instances.proofs.Texts.{nodes-apart}
 use Rattle.lustre_instances.proofs.NamedValues.{map-twice}
 use Rattle.lustre_instances.proofs.FunctionNodes.{tree_at}
 
@@ -49,7 +48,7 @@ placed-at named lawful k n there =
     let at : slice_get nodes k ≡ Some (placed_node texts n) = at-map (placed_node texts) named k n there in
     record {
       below = at-below nodes k (placed_node texts n) at;
-      place = place-is (node_texts nodes) k n.text (nodes-apart nodes lawful) (at-map tree_text nodes k (placed_node texts n) at);
+      place = place-at (node_texts nodes) k n.text (nodes-apart nodes lawful) (at-map tree_text nodes k (placed_node texts n) at);
       node = get_or_from_slice_get nodes k (placed_node texts n) no_node at ∙ ap (λ ts. placed_node ts n) (sym same);
     }
 
@@ -57,36 +56,6 @@ placed-at named lawful k n there =
 
 pub reverse-first : {A : Type 0} (x : A) (xs : List A) → reverse (x ∷ xs) ≡ reverse xs ++ x ∷ []
 reverse-first x xs = reverse-append (x ∷ []) xs
-
-in-reverse : {A : Type 0} (xs : List A) (x : A) → Contains xs x → Contains (reverse xs) x
-in-reverse [] x h = absurd (in-none x h)
-in-reverse (y ∷ ys) x h =
-    subst (λ zs. Contains zs x) (sym (reverse-first y ys))
-    (elim (in-cases y x ys h) [
-      | inl same ↦ Contains-append_right (reverse ys) (y ∷ []) x (subst (Contains (y ∷ [])) same (in-first y []))
-      | inr more ↦ Contains-append_left (reverse ys) (y ∷ []) x (in-reverse ys x more)
-    ])
-
-pub system-below : (rows : List Row) (e : ℕ) → is_subsystem (row_at rows e).kind ≡ true → e < length rows
-system-below rows e subsystem = elim (cases_lt e (length rows)) [
-  | inl below ↦ below
-  | inr past ↦
-      absurd (true≢false (sym subsystem ∙ ap (λ (row : Row). is_subsystem row.kind) (get_or_past rows e no_row past)))
-]
-
-in-systems : (rows : List Row) (s : Option ℕ) → IsSystem rows s → Contains (systems rows) s
-in-systems rows None is = in-first None (map Some (systems_inside rows None))
-in-systems rows (Some e) is =
-    in-rest None (Some e) (map Some (systems_inside rows None))
-    (in-map Some (systems_inside rows None) e
-    (in-filter (λ b. is_subsystem (row_at rows b).kind && is_inside rows None b) (row_numbers rows) e
-    (in-range 0 (length rows) e (omega arith) (let below = system-below rows e is in omega arith))
-    (and_from (is_subsystem (row_at rows e).kind) (is_inside rows None e) is refl)))
-
-got : {A : Type 0} (xs : List A) (k : ℕ) (d : A) → k < length xs → slice_get xs k ≡ Some (slice_index_or xs k d)
-got [] k d below = absurd (omega arith)
-got (x ∷ xs) zero d below = refl
-got (x ∷ xs) (suc k) d below = got xs k d (omega arith)
 
 last-there : {A : Type 0} (xs : List A) (z : A) → slice_get (xs ++ z ∷ []) (length (xs ++ z ∷ []) - 1) ≡ Some z
 last-there xs z =
@@ -102,7 +71,7 @@ module _ (d : Diagram) (hyper : ℕ) where
   function-there k few =
       at-left (function_nodes ++ of_systems) (root_node d hyper ∷ []) k (function_node (tree_at k))
       (at-left function_nodes of_systems k (function_node (tree_at k))
-      (at-map function_node function_trees k (tree_at k) (got function_trees k _ few)))
+      (at-map function_node function_trees k (tree_at k) (slice_get-get_or function_trees k _ few)))
 
   system-there : (s : Option ℕ) → IsSystem d.rows s → (k : ℕ) × (slice_get (named_file d hyper) k ≡ Some (system_node d s))
   system-there s is =

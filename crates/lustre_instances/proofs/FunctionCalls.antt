@@ -20,7 +20,7 @@ use Rattle.lustre_settling.proofs.lemmas.Unfolded.{AreCallsFrom, lawful-at, call
 use Rattle.lustre_system.specs.Functions.{function_name, function_node}
 use Rattle.lustre_system.specs.FunctionRules.{called}
 use Rattle.lustre_right.specs.Paths.{node_place}
-use Rattle.lustre_instances.proofs.Texts.{text-there}
+use Rattle.lustre_rows.proofs.lemmas.NamePlaces.{text-there}
 use Rattle.lustre_instances.proofs.NamedValues.{map-twice}
 use Rattle.lustre_instances.proofs.FunctionNodes.{tree_at, function_at, gives-the-called}
 use Rattle.lustre_instances.proofs.FileNodes.{IsNodeAt}

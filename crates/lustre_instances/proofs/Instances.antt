@@ -20,9 +20,10 @@ use Rattle.lustre_system.specs.Functions.{int_name}
 use Rattle.lustre_system.specs.Names.{port_names}
 use Rattle.lustre_system.specs.SystemNodes.{system_node, system_equations}
 use Rattle.lustre_system.specs.File.{output_names, root_node}
+use Rattle.lustre_rows.proofs.lemmas.Systems.{system-below}
 use Rattle.lustre_right.specs.Paths.{node_place, node_named, callees, call_place, path_to}
 use Rattle.lustre_instances.proofs.NamedValues.{map-twice, outputs-named}
-use Rattle.lustre_instances.proofs.FileNodes.{IsFileOf, system-below}
+use Rattle.lustre_instances.proofs.FileNodes.{IsFileOf}
 use Rattle.lustre_instances.proofs.ChildCalls.{child_arguments, child-there}
 use Rattle.lustre_instances.proofs.CalledOnce.{called-once}
 use Rattle.lustre_instances.proofs.SystemPaths.{was-itself, path-to-top, path-to-child}

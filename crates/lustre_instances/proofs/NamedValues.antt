@@ -10,7 +10,7 @@ use Rattle.lustre_syntax.specs.Tree.{Declared, texts_of}
 use Rattle.lustre_syntax.specs.Named.{NamedNode, all_names, place_of}
 use Rattle.lustre_flows.specs.Values.{value_at}
 use Rattle.lustre_flows.specs.Instances.{has_value}
-use Rattle.lustre_instances.proofs.Texts.{AreApart, place-is}
+use Rattle.lustre_rows.proofs.lemmas.NamePlaces.{AreApart, place-at}
 
 pub map-twice : {A B C : Type 0} (f : A → B) (g : B → C) (xs : List A) → map g (map f xs) ≡ map (λ x. g (f x)) xs
 map-twice f g [] = refl
@@ -49,7 +49,7 @@ module _ (n : NamedNode) where
       let all = names-count in
       values-from texts vs 0 (texts_of n.inputs)
       (λ j t at. let x = map-at text_of n.inputs j t at in
-      place-is texts j t apart
+      place-at texts j t apart
       (at-map text_of (all_names n) j x.0
       (at-left (n.inputs ++ n.outputs) n.others j x.0 (at-left n.inputs n.outputs j x.0 x.1)) ∙ ap Some x.2)
       ∙ (let first : j ≡ 0 + j = omega arith in first)) (omega arith)
@@ -62,7 +62,7 @@ module _ (n : NamedNode) where
       let all = names-count in
       values-from texts vs (length n.inputs) (texts_of n.outputs)
       (λ j t at. let x = map-at text_of n.outputs j t at in
-      place-is texts (length n.inputs + j) t apart
+      place-at texts (length n.inputs + j) t apart
       (at-map text_of (all_names n) (length n.inputs + j) x.0
       (at-left (n.inputs ++ n.outputs) n.others (length n.inputs + j) x.0 (at-right n.inputs n.outputs j x.0 x.1)) ∙ ap Some x.2))
       (omega arith)
@@ -84,7 +84,7 @@ pub valued-by_name : (texts : List (List ℕ)) (vs : List (Option ℤ)) → AreA
 valued-by_name texts vs apart many each =
     valued-by_place vs (λ k low. let (t, at) = below-at texts k (omega arith) in
     let (v, is) = each t (in-at texts k t at) in
-    (v, ap (value_at vs) (sym (place-is texts k t apart at)) ∙ is))
+    (v, ap (value_at vs) (sym (place-at texts k t apart at)) ∙ is))
 
 pub valued-mapped : {A : Type 0} (f : A → Option ℤ) (xs : List A) → ((x : A) → Contains xs x → (v : ℤ) × (f x ≡ Some v)) →
     list_all has_value (map f xs) ≡ true

@@ -13,7 +13,7 @@ use Rattle.lustre_settling.proofs.lemmas.Forms.{HasForm, HaveForms, parts-of_for
 use Rattle.lustre_settling.proofs.lemmas.Given.{times}
 use Rattle.lustre_settling.proofs.lemmas.Unfolded.{lawful-at, holding-unfolded}
 use Rattle.lustre_right.specs.Paths.{node_place, callees, call_place}
-use Rattle.lustre_instances.proofs.Texts.{AreApart, distinct-apart}
+use Rattle.lustre_rows.proofs.lemmas.NamePlaces.{AreApart, distinct-apart}
 use Rattle.lustre_instances.proofs.NamedValues.{map-twice}
 use Rattle.lustre_instances.proofs.Calls.{IsCallAt, set-found, call-found, called-place}
 use Rattle.lustre_instances.proofs.FileNodes.{IsNodeAt}

@@ -18,9 +18,10 @@ use Rattle.lustre_syntax.specs.Named.{renamed, renamed_equation, place_of}
 use Rattle.lustre_flows.specs.Ticks.{last_place}
 use Rattle.lustre_system.specs.SystemNodes.{system_node}
 use Rattle.lustre_system.specs.File.{root_node}
+use Rattle.lustre_rows.proofs.lemmas.Systems.{system-below}
 use Rattle.lustre_right.specs.Paths.{callee_of, callees, call_place, node_place, node_named, path_to}
-use Rattle.lustre_instances.proofs.Texts.{found}
-use Rattle.lustre_instances.proofs.FileNodes.{IsFileOf, system-below}
+use Rattle.lustre_rows.proofs.lemmas.NamePlaces.{found}
+use Rattle.lustre_instances.proofs.FileNodes.{IsFileOf}
 use Rattle.lustre_instances.proofs.ChildCalls.{child_arguments, child_call, child-there}
 use Rattle.lustre_instances.proofs.SystemPaths.{path-to-top, path-to-child}
 use Rattle.lustre_instances.proofs.Opened.{placed, place}

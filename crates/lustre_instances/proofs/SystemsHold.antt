@@ -10,18 +10,19 @@ use Rattle.diagram_meaning.specs.SystemRuns.{IsRowOf}
 use Rattle.diagram_typed_runs.specs.TypedRuns.{IsSystem}
 use Rattle.modules_profile.specs.Systems.{system_name}
 use Rattle.emit_shape.specs.Names.{value_name, now_name}
-use Rattle.lustre_syntax.specs.Tree.{name, set, call, NodeTree, FileTree, texts_of}
+use Rattle.lustre_syntax.specs.Tree.{name, set, call, NodeTree, FileTree}
 use Rattle.lustre_syntax.specs.Named.{NamedExpr, NamedEquation, NamedNode}
 use Rattle.lustre_flows.specs.Values.{read, value_of}
 use Rattle.lustre_flows.specs.Instances.{Instance, values_in, outputs_of}
 use Rattle.lustre_flows.specs.Ticks.{inside, last_node}
 use Rattle.lustre_settling.specs.Solutions.{IsSolution}
 use Rattle.lustre_rows.proofs.lemmas.Lists.{all-by-place}
-use Rattle.lustre_system.specs.Functions.{int_name, function_name}
+use Rattle.lustre_system.specs.Functions.{function_name}
 use Rattle.lustre_system.specs.FunctionRules.{called}
 use Rattle.lustre_system.specs.Names.{port_names}
 use Rattle.lustre_system.specs.SystemNodes.{system_inputs, system_node, system_equations}
 use Rattle.lustre_system.specs.File.{lustre_file, next_now, output_names, root_node}
+use Rattle.lustre_rows.proofs.lemmas.NamePlaces.{texts-int}
 use Rattle.lustre_right.specs.Paths.{node_place, path_to}
 use Rattle.lustre_right.specs.Systems.{EquationHolds}
 use Rattle.lustre_right.specs.SystemLaws.{SystemsHold}
@@ -38,10 +39,6 @@ value-of_read (Some v) = refl
 all-read : {A : Type 0} (g : A → Option ℤ) (xs : List A) → map (λ x. value_of (read (g x))) xs ≡ map g xs
 all-read g [] = refl
 all-read g (x ∷ xs) = ap₂ {C = List (Option ℤ)} (λ y ys. y ∷ ys) (value-of_read (g x)) (all-read g xs)
-
-texts-of_ints : (xs : List (List ℕ)) → texts_of (map int_name xs) ≡ xs
-texts-of_ints [] = refl
-texts-of_ints (x ∷ xs) = ap {B = List (List ℕ)} (λ ys. x ∷ ys) (texts-of_ints xs)
 
 module _ (d : Diagram) (hyper : ℕ) (f : FileTree) (before : Option Instance) (row : List ℤ) (left : Instance)
     (file : IsFileOf d hyper f) (nested : IsNested d.rows) (solution : IsSolution f before row left) where
@@ -83,7 +80,7 @@ module _ (d : Diagram) (hyper : ℕ) (f : FileTree) (before : Option Instance) (
   ports-read =
       let ports = port_names d.rows None in
       map-twice name from_root ports ∙ all-read at_root ports
-      ∙ ap (map at_root) (sym (texts-of_ints ports))
+      ∙ ap (map at_root) (sym (texts-int ports))
       ∙ inputs-named root (values_in left) opened-root.apart opened-root.names ∙ opened-root.takes
 
   root-inputs : take (length (system_inputs d None)) (values_in (inside (path None) left))
@@ -96,7 +93,7 @@ module _ (d : Diagram) (hyper : ℕ) (f : FileTree) (before : Option Instance) (
   root-outputs =
       ap (λ (n : NodeTree). outputs_of n left) file.root.node
       ∙ sym (outputs-named root (values_in left) opened-root.apart opened-root.names)
-      ∙ ap (map at_root) (texts-of_ints (output_names d))
+      ∙ ap (map at_root) (texts-int (output_names d))
       ∙ called-top.outputs
       ∙ system-outputs d hyper f before row left file nested solution None (map from_root (top_arguments d)) tt opened-top
 

@@ -25,7 +25,7 @@ use Rattle.lustre_system.specs.File.{lustre_file, root_node}
 use Rattle.lustre_right.specs.Paths.{node_place, call_place, path_to}
 use Rattle.lustre_right.specs.Systems.{HasArguments}
 use Rattle.lustre_right.specs.SystemLaws.{WholeBySystems}
-use Rattle.lustre_instances.proofs.Texts.{place-is}
+use Rattle.lustre_rows.proofs.lemmas.NamePlaces.{place-at}
 use Rattle.lustre_instances.proofs.NamedValues.{names-count, valued-by_place, valued-by_name, valued-mapped}
 use Rattle.lustre_instances.proofs.Calls.{complete-calls, called-place}
 use Rattle.lustre_instances.proofs.FileNodes.{IsFileOf, file-of}
@@ -153,7 +153,7 @@ module _ (d : Diagram) (hyper : ℕ) (f : FileTree) (before : Option Instance) (
           at-map (λ (x : Declared). x.text) (all_names root) (n + (m + 0)) (int_name now_name)
           (subst (λ k. slice_get (all_names root) k ≡ Some (int_name now_name)) place_of_last
           (at-right (root.inputs ++ root.outputs) root.others 0 (int_name now_name) refl)) in
-          let place_is = place-is (texts_of (all_names root)) (n + (m + 0)) now_name opened-root.apart last in
+          let place_is = place-at (texts_of (all_names root)) (n + (m + 0)) now_name opened-root.apart last in
           let first = length-drop n vs in
           let rest = length-drop m (drop n vs) in
           let names = opened-root.names in

@@ -1,9 +1,10 @@
 -- Instances whose values and calls are whole.
-use Rattle.std.specs.Prelude.{◌≡◌, ℕ, zero, suc, ◌<◌, ◌≤◌, ℤ, true, List, [], ◌∷◌, ◌++◌, map, flat_map, take, drop, length, slice_get, Option, Some, refl}
+use Rattle.std.specs.Prelude.{◌≡◌, ℕ, zero, suc, ◌<◌, ◌≤◌, ℤ, true, List, [], ◌∷◌, map, flat_map, take, drop, length, slice_get, Option, Some, refl}
 use Rattle.std.specs.List.{AllByRecursion, list_all}
 use Rattle.std.proofs.Common.{sym, ap, subst, ◌∙◌, arith, take-append-drop, take_all, length-drop}
 use Rattle.std.proofs.lemmas.Bool.{and_from, and_parts}
 use Rattle.std.proofs.lemmas.List.Folds.{list_all-append}
+use Rattle.diagram_meaning.proofs.lemmas.Agreement.{All-append_left, All-append_right}
 use Rattle.lustre_syntax.specs.Tree.{FileTree, node_texts}
 use Rattle.lustre_flows.specs.Values.{value_at}
 use Rattle.lustre_flows.specs.Instances.{Instance, instance, values_in, calls_in, outputs_of, has_value, is_complete, are_complete}
@@ -20,20 +21,12 @@ all-at P [] k x all at = absurd (let wrong : ⊥ = cc at in wrong)
 all-at P (y ∷ ys) zero x all at = let same : y ≡ x = cc at in subst P same all.0
 all-at P (y ∷ ys) (suc k) x all at = all-at P ys k x all.1 at
 
-first-part : {A : Type 0} (P : A → Type 0) (xs ys : List A) → AllByRecursion P (xs ++ ys) → AllByRecursion P xs
-first-part P [] ys all = tt
-first-part P (x ∷ xs) ys all = (all.0, first-part P xs ys all.1)
-
-later-part : {A : Type 0} (P : A → Type 0) (xs ys : List A) → AllByRecursion P (xs ++ ys) → AllByRecursion P ys
-later-part P [] ys all = all
-later-part P (x ∷ xs) ys all = later-part P xs ys all.1
-
 pub all-joined-at : {A B : Type 0} (P : B → Type 0) (g : A → List B) (xs : List A) (k : ℕ) (x : A) → AllByRecursion P (flat_map g xs) →
     slice_get xs k ≡ Some x → AllByRecursion P (g x)
 all-joined-at P g [] k x all at = absurd (let wrong : ⊥ = cc at in wrong)
 all-joined-at P g (y ∷ ys) zero x all at =
-    let same : y ≡ x = cc at in subst (λ z. AllByRecursion P (g z)) same (first-part P (g y) (flat_map g ys) all)
-all-joined-at P g (y ∷ ys) (suc k) x all at = all-joined-at P g ys k x (later-part P (g y) (flat_map g ys) all) at
+    let same : y ≡ x = cc at in subst (λ z. AllByRecursion P (g z)) same (All-append_left P (g y) (flat_map g ys) all)
+all-joined-at P g (y ∷ ys) (suc k) x all at = all-joined-at P g ys k x (All-append_right P (g y) (flat_map g ys) all) at
 
 -- a list is whole where its parts are
 pub whole-parts : (n : ℕ) (vs : List (Option ℤ)) → list_all has_value (take n vs) ≡ true → list_all has_value (drop n vs) ≡ true →

@@ -1,5 +1,5 @@
 -- What the calls in an expression give: a name for each, numbered from 1 on.
-use Rattle.std.specs.Prelude.{◌≡◌, ℕ, zero, suc, ◌+◌, List, [], ◌∷◌, ◌++◌, map, ⊤}
+use Rattle.std.specs.Prelude.{◌≡◌, ℕ, zero, suc, ◌+◌, List, [], ◌∷◌, ◌++◌, map}
 use Rattle.std.specs.List.{flat_map, range_with_len}
 use Rattle.std.proofs.Common.{refl, sym, ◌∙◌, ap, ap₂, arith}
 use Rattle.std.proofs.lemmas.Grind.{flat_map-append}
@@ -9,6 +9,7 @@ use Rattle.c_syntax.specs.Tree.{ExprTree, literal, neg, read, binary, pick, pure
 use Rattle.lustre_syntax.specs.Tree.{call, given_by}
 use Rattle.lustre_syntax.specs.Named.{NamedEquation}
 use Rattle.lustre_system.specs.FromC.{call_count, call_counts, cond_call_count, values_from, calls_from, all_calls_from, test_calls_from}
+use Rattle.lustre_rows.proofs.lemmas.SimpleCodes.{Simple, AllSimple, TestSimple}
 
 range-append : (a j k : ℕ) → range_with_len a (j + k) ≡ range_with_len a j ++ range_with_len (a + j) k
 range-append a zero k =
@@ -20,27 +21,6 @@ range-append a (suc j) k =
     let start : a + 1 + j ≡ a + suc j = omega arith in
     ap (range_with_len a) count
     ∙ ap (λ ks. a ∷ ks) (range-append (a + 1) j k ∙ ap (λ i. range_with_len (a + 1) j ++ range_with_len i k) start)
-
--- an expression that reads no array
-abbrev mutual
-  pub Arrayless : ExprTree → Type 0
-  Arrayless (literal value) = ⊤
-  Arrayless (neg a) = Arrayless a
-  Arrayless (read leaf) = ⊤
-  Arrayless (binary o a b) = Arrayless a × Arrayless b
-  Arrayless (pick test a b) = TestArrayless test × Arrayless a × Arrayless b
-  Arrayless (pure function values) = AllArrayless values
-  Arrayless (item field index) = ⊥
-
-  pub AllArrayless : ExprTrees → Type 0
-  AllArrayless no_exprs = ⊤
-  AllArrayless (more_exprs e es) = Arrayless e × AllArrayless es
-
-  pub TestArrayless : CondTree → Type 0
-  TestArrayless (compare how a b) = Arrayless a × Arrayless b
-  TestArrayless (both a b) = TestArrayless a × TestArrayless b
-  TestArrayless (either a b) = TestArrayless a × TestArrayless b
-  TestArrayless (negated a) = TestArrayless a
 
 module _ (leaf_name : Leaf → List ℕ) (function_name part_name : ℕ → List ℕ) where
   -- the names of so many calls after n others
@@ -56,7 +36,7 @@ module _ (leaf_name : Leaf → List ℕ) (function_name part_name : ℕ → List
       ∙ ap (map part_name) (sym (range-append (n + 1) j k))
 
   mutual
-    pub calls-given : (n : ℕ) (e : ExprTree) → Arrayless e →
+    pub calls-given : (n : ℕ) (e : ExprTree) → Simple e →
         flat_map given_by (calls_from leaf_name function_name part_name n e) ≡ numbered n (call_count e)
     calls-given n (literal value) plain = refl
     calls-given n (neg a) plain = calls-given n a plain
@@ -80,7 +60,7 @@ module _ (leaf_name : Leaf → List ℕ) (function_name part_name : ℕ → List
         ∷ []) (all-calls-given n values plain) refl
     calls-given n (item field index) plain = absurd plain
 
-    pub all-calls-given : (n : ℕ) (es : ExprTrees) → AllArrayless es →
+    pub all-calls-given : (n : ℕ) (es : ExprTrees) → AllSimple es →
         flat_map given_by (all_calls_from leaf_name function_name part_name n es) ≡ numbered n (call_counts es)
     all-calls-given n no_exprs plain = refl
     all-calls-given n (more_exprs e es) plain =
@@ -88,7 +68,7 @@ module _ (leaf_name : Leaf → List ℕ) (function_name part_name : ℕ → List
         (all_calls_from leaf_name function_name part_name (n + call_count e) es) (calls-given n e plain.0)
         (all-calls-given (n + call_count e) es plain.1)
 
-    pub test-calls-given : (n : ℕ) (c : CondTree) → TestArrayless c →
+    pub test-calls-given : (n : ℕ) (c : CondTree) → TestSimple c →
         flat_map given_by (test_calls_from leaf_name function_name part_name n c) ≡ numbered n (cond_call_count c)
     test-calls-given n (compare how a b) plain =
         joined n (call_count a) (call_count b) (calls_from leaf_name function_name part_name n a)

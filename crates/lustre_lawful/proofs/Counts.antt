@@ -11,6 +11,7 @@ use Rattle.lustre_syntax.specs.Names.{is_lustre_name}
 use Rattle.lustre_syntax.specs.Lawful.{AreDistinct}
 use Rattle.modules_profile.proofs.lemmas.Members.{in-none, in-first, in-rest, in-cases, in-map, of-map}
 use Rattle.modules_profile.proofs.lemmas.LawfulSteps.{of-flat_map}
+use Rattle.lustre_rows.proofs.lemmas.Lists.{all-member}
 
 abbrev pub times : List ℕ → List (List ℕ) → ℕ
 times x ts = length (filter (bytes_eq x) ts)
@@ -62,17 +63,6 @@ times-none x ts none = elim (cases_lt 0 (times x ts)) [
   | inr not ↦ omega (arith, not)
 ]
 
-pub all-of : {A : Type 0} (P : A → Type 0) (xs : List A) (x : A) → AllByRecursion P xs → Contains xs x → P x
-all-of P [] x all there = absurd (in-none x there)
-all-of P (y ∷ xs) x all there = elim (in-cases y x xs there) [
-  | inl same ↦ subst P same all.0
-  | inr later ↦ all-of P xs x all.1 later
-]
-
-pub all-from : {A : Type 0} (P : A → Type 0) (xs : List A) → ((x : A) → Contains xs x → P x) → AllByRecursion P xs
-all-from P [] each = tt
-all-from P (x ∷ xs) each = (each x (in-first x xs), all-from P xs (λ y there. each y (in-rest x y xs there)))
-
 -- ---- Lists in which none is twice
 
 -- what a test tells apart
@@ -82,8 +72,8 @@ once-beside test ts us holds fails first second x =
     let both = times-append x ts us in
     elim (cases_lt 0 (times x ts)) [
       | inl some ↦
-          let here = all-of (λ t. test t ≡ true) ts x holds (of-times x ts some) in
-          let none = times-none x us (λ there. true≢false (sym here ∙ all-of (λ u. test u ≡ false) us x fails there)) in
+          let here = all-member (λ t. test t ≡ true) ts holds x (of-times x ts some) in
+          let none = times-none x us (λ there. true≢false (sym here ∙ all-member (λ u. test u ≡ false) us fails x there)) in
           let one = first x in omega (arith, both, none, one)
       | inr not ↦ let one = second x in omega (arith, both, not, one)
     ]

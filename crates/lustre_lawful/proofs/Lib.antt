@@ -5,7 +5,6 @@ pub mod Places
 pub mod ApartNumbers
 pub mod FewCalls
 pub mod CallTexts
-pub mod RowShapes
 pub mod RowTexts
 pub mod SystemTexts
 pub mod NumberedNames

@@ -26,11 +26,11 @@ use Rattle.lustre_system.specs.Functions.{int_name}
 use Rattle.lustre_system.specs.Names.{port_names}
 use Rattle.lustre_system.specs.SystemNodes.{system_node}
 use Rattle.lustre_rows.proofs.lemmas.Lists.{all-after}
+use Rattle.lustre_rows.proofs.lemmas.NamePlaces.{texts-int}
 use Rattle.lustre_lawful.proofs.Counts.{times, Once, times-append, once-beside, once-single, once-mapped, distinct-from}
 use Rattle.lustre_lawful.proofs.IntTypes.{AreInts, ints-mapped, ints-append, int-there, int-at, have-ints, name-fits, names-fit, inputs-typed, outputs-typed}
 use Rattle.lustre_lawful.proofs.Places.{gives-names, place-below, all-mapped}
 use Rattle.lustre_lawful.proofs.NumberedNames.{begins}
-use Rattle.lustre_lawful.proofs.RowTexts.{texts-int}
 use Rattle.lustre_lawful.proofs.InputNames.{port-names_named, port-names_once, port-names_told}
 use Rattle.lustre_lawful.proofs.ApartNumbers.{apart-numbers}
 use Rattle.lustre_lawful.proofs.Texts.{number_text, numbered-name, letter-number, number-alone}

@@ -5,7 +5,6 @@ use Rattle.std.proofs.Common.{refl, sym, ◌∙◌, ap, ap₂, arith, true≢fal
 use Rattle.std.proofs.lemmas.Grind.{flat_map-append}
 use Rattle.std.proofs.lemmas.List.{append_assoc, map-append, append-nil}
 use Rattle.diagram_blocks.specs.declared.Kind.{Kind}
-use Rattle.diagram_blocks.specs.declared.Kind.TheVariants.{Outport}
 use Rattle.diagram_blocks.specs.Kinds.{is_delay, is_outport, is_subsystem}
 use Rattle.diagram_blocks.specs.Meaning.{has_value}
 use Rattle.diagram_meaning.specs.Rows.{row_at, outports_of}
@@ -18,9 +17,11 @@ use Rattle.lustre_system.specs.FromC.{call_count, calls_of}
 use Rattle.lustre_system.specs.Functions.{int_name, function_name}
 use Rattle.lustre_system.specs.Names.{takes_name, part_name, leaf_name, leaves_of}
 use Rattle.lustre_system.specs.RowEquations.{bool_name, only_if, row_code, samples, sample_equations, memory_equations, value_equations, child_equations, row_equations, row_value, row_names}
+use Rattle.lustre_rows.proofs.lemmas.NamePlaces.{texts-int}
+use Rattle.lustre_rows.proofs.lemmas.Wires.{outport-valued}
+use Rattle.lustre_rows.proofs.lemmas.SimpleCodes.{row-simple}
 use Rattle.lustre_lawful.proofs.CallTexts.{calls-given}
 use Rattle.lustre_lawful.proofs.Counts.{times, times-append}
-use Rattle.lustre_lawful.proofs.RowShapes.{rows-plain}
 
 -- ---- Parts of lists
 
@@ -36,10 +37,6 @@ only-texts false xs ts are = refl
 pub texts-mapped : {A : Type 0} (f : A → List ℕ) (xs : List A) → texts_of (map (λ x. int_name (f x)) xs) ≡ map f xs
 texts-mapped f [] = refl
 texts-mapped f (x ∷ xs) = ap (λ ts. f x ∷ ts) (texts-mapped f xs)
-
-pub texts-int : (ts : List (List ℕ)) → texts_of (map int_name ts) ≡ ts
-texts-int [] = refl
-texts-int (t ∷ ts) = ap (λ us. t ∷ us) (texts-int ts)
 
 -- ---- A row
 
@@ -84,7 +81,7 @@ module _ (d : Diagram) (s : Option ℕ) (b : ℕ) where
       (set 0 (value_name b) (row_value d s b) ∷ [])
       ∙ ap (λ ts. ts ++ value_name b ∷ [])
       (calls-given (leaf_name d.rows s) function_name (part_name b) 0 (row_code d s b)
-      (rows-plain (op_at d b) (leaves_of d.rows s b) (map (type_at d.types) (row_at d.rows b).inputs) (Child b 0)))
+      (row-simple (op_at d b) (leaves_of d.rows s b) (map (type_at d.types) (row_at d.rows b).inputs) (Child b 0)))
 
   pub given-are : flat_map given_by (row_equations d s b) ≡ row_given
   given-are =
@@ -120,10 +117,6 @@ module _ (d : Diagram) (s : Option ℕ) (b : ℕ) where
       (only-texts (not (is_outport own_kind)) value (value_name b ∷ []) refl)))
       (only-texts (is_subsystem own_kind) children child_texts (texts-mapped value_name (outports_of d.rows (Some b)))))
 
-outports-have : (k : Kind) → is_outport k ≡ true → has_value k ≡ true
-outports-have (Outport port reset initial) is = refl
-outports-have _ is = absurd (true≢false (sym is))
-
 -- the equations of a row give the row's names, and the value of an Outport
 pub row-times : (d : Diagram) (s : Option ℕ) (b : ℕ) (x : List ℕ) →
     times x (row_given d s b) ≡ times x (texts_of (row_names d s b)) + times x (output_text d s b)
@@ -139,7 +132,7 @@ row-times d s b x =
     let three = times-append x memory (named ++ children) in
     let four = times-append x named children in
     let five = ap (times x) (names-are d s b) in
-    let six = values x parts (has_value k) (is_outport k) (outports-have k) in
+    let six = values x parts (has_value k) (is_outport k) (outport-valued k) in
     omega (arith, one, two, three, four, five, six)
   where
     values : (x : List ℕ) (parts : List (List ℕ)) (has out : Bool) → (out ≡ true → has ≡ true) →

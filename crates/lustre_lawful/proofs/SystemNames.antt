@@ -19,17 +19,18 @@ use Rattle.lustre_syntax.specs.Tree.{Declared, given_by, texts_of}
 use Rattle.lustre_syntax.specs.Lawful.{AreDistinct}
 use Rattle.lustre_system.specs.Names.{around_active, around_off, active_name, reset_name, port_names}
 use Rattle.lustre_system.specs.SystemNodes.{system_inputs, system_names, system_equations, system_node, has_trigger}
-use Rattle.lustre_rows.proofs.lemmas.Lists.{all-after}
+use Rattle.lustre_rows.proofs.lemmas.Lists.{all-after, all-member, all-members}
+use Rattle.lustre_rows.proofs.lemmas.NamePlaces.{texts-int}
 use Rattle.lustre_right.specs.NodeLaws.{SystemNamesAreDistinct, SystemsGiveTheirNames}
 use Rattle.lustre_right.specs.Systems.{system_texts}
 use Rattle.lustre_lawful.proofs.ApartNumbers.{apart-rows}
-use Rattle.lustre_lawful.proofs.Counts.{times, Once, Apart, times-append, times-of, of-times, all-of, all-from, once-beside, once-mapped, once-joined, once-from, distinct-from}
+use Rattle.lustre_lawful.proofs.Counts.{times, Once, Apart, times-append, times-of, of-times, once-beside, once-mapped, once-joined, once-from, distinct-from}
 use Rattle.lustre_lawful.proofs.FewCalls.{few-samples}
 use Rattle.lustre_lawful.proofs.InputNames.{IsNamed, input_texts, inputs-named, inputs-told, inputs-once}
 use Rattle.lustre_lawful.proofs.Places.{gives-names}
 use Rattle.lustre_lawful.proofs.NumberedNames.{is_input_text, is_bare, value-injective}
 use Rattle.lustre_lawful.proofs.RowNames.{HasFewNumbers, IsRowText, small, one-row, row-texts, row-once}
-use Rattle.lustre_lawful.proofs.RowTexts.{row_given, texts-int}
+use Rattle.lustre_lawful.proofs.RowTexts.{row_given}
 use Rattle.lustre_lawful.proofs.SystemTexts.{trigger_texts, system_given, system-given, system-times}
 
 -- ---- What the equations give
@@ -42,11 +43,11 @@ module _ (d : Diagram) (few : HasFewNumbers d) (s : Option ℕ) where
   row-of b there = let m = of-rows d.rows s b there in record { in_table = m.0; own = m.1 }
 
   text-of : (b : ℕ) (x : List ℕ) → Contains (rows_of d.rows s) b → Contains (row_given d s b) x → IsRowText d.rows b x
-  text-of b x there has = all-of (IsRowText d.rows b) (row_given d s b) x (row-texts d few s b (row-of b there)) has
+  text-of b x there has = all-member (IsRowText d.rows b) (row_given d s b) (row-texts d few s b (row-of b there)) x has
 
   each-row_text : (P : List ℕ → Type 0) → ((b : ℕ) (x : List ℕ) → IsRowText d.rows b x → P x) → AllByRecursion P row_texts
   each-row_text P each =
-      all-from P row_texts (λ x there.
+      all-members P row_texts (λ x there.
       let (b, row, has) = of-flat_map (row_given d s) (rows_of d.rows s) x there in each b x (text-of b x row has))
 
   rows-once : Once row_texts
@@ -127,10 +128,10 @@ module _ (d : Diagram) (few : HasFewNumbers d) (s : Option ℕ) where
     names-named =
         subst (AllByRecursion IsNamed) (sym all-are)
         (all-after IsNamed inputs (texts_of others) (inputs-named d.rows s few-inputs)
-        (all-from IsNamed (texts_of others) (λ x there.
+        (all-members IsNamed (texts_of others) (λ x there.
         let some = times-of x (texts_of others) there in
         let same = same-given x in
-        all-of IsNamed (system_given d s) x (each-given IsNamed refl refl refl (λ b y is. is.named))
+        all-member IsNamed (system_given d s) (each-given IsNamed refl refl refl (λ b y is. is.named)) x
         (of-times x (system_given d s) (omega (arith, some, same))))))
 
     pub names-distinct : AreDistinct (system_texts d s)

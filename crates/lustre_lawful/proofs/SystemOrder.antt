@@ -5,7 +5,6 @@ use Rattle.std.proofs.Common.{refl, sym, ◌∙◌, ap, subst, arith, inl, inr, 
 use Rattle.std.proofs.lemmas.Bool.{and_from, and_parts}
 use Rattle.std.proofs.lemmas.List.{reverse-append, map-append}
 use Rattle.std.proofs.lemmas.Fmt.{decimal_injective}
-use Rattle.std.proofs.lemmas.List.Elements.{Contains-push, Contains-append_left}
 use Rattle.std.proofs.lemmas.Option.{same_Some}
 use Rattle.diagram_blocks.specs.Kinds.{is_subsystem}
 use Rattle.diagram_meaning.specs.declared.Row.{Row}
@@ -20,15 +19,6 @@ use Rattle.lustre_lawful.proofs.NumberedNames.{begins}
 use Rattle.lustre_lawful.proofs.Texts.{number_text, number-alone}
 
 -- ---- Reversed lists
-
-pub in-reverse : {A : Type 0} (xs : List A) (x : A) → Contains xs x → Contains (reverse xs) x
-in-reverse [] x there = there
-in-reverse (y ∷ xs) x there =
-    subst (λ ys. Contains ys x) (sym (reverse-append (y ∷ []) xs))
-    (elim (in-cases y x xs there) [
-      | inl same ↦ subst (λ z. Contains (reverse xs ++ y ∷ []) z) same (Contains-push (reverse xs) y)
-      | inr later ↦ Contains-append_left (reverse xs) (y ∷ []) x (in-reverse xs x later)
-    ])
 
 times-reverse : (x : List ℕ) (ts : List (List ℕ)) → times x (reverse ts) ≡ times x ts
 times-reverse x [] = refl

@@ -17,16 +17,17 @@ use Rattle.lustre_syntax.specs.Named.{NamedNode, placed_node}
 use Rattle.lustre_syntax.specs.Lawful.{AreDistinct, IsLawfulNode, AreNodes}
 use Rattle.lustre_system.specs.Functions.{function_nodes}
 use Rattle.lustre_system.specs.SystemNodes.{system_node}
+use Rattle.lustre_rows.proofs.lemmas.Lists.{all-member, in-reverse}
 use Rattle.lustre_right.specs.LongDelays.{long_delay}
 use Rattle.lustre_right.specs.NodeLaws.{GivesItsNames, CalleesAreThere, SystemsAreTyped}
-use Rattle.lustre_lawful.proofs.Counts.{times, Once, times-append, times-here, times-of, all-of, once-beside, once-from, new-name}
+use Rattle.lustre_lawful.proofs.Counts.{times, Once, times-append, times-here, times-of, once-beside, once-from, new-name}
 use Rattle.lustre_lawful.proofs.FunctionNodes.{functions-lawful}
 use Rattle.lustre_lawful.proofs.NodePlaces.{names_of, found-node, nodes-append, placed-texts, function-there}
 use Rattle.lustre_lawful.proofs.Places.{all-mapped}
 use Rattle.lustre_lawful.proofs.NumberedNames.{begins}
 use Rattle.lustre_lawful.proofs.RowNames.{small}
 use Rattle.lustre_lawful.proofs.SystemNames.{few-numbers, system_names_are_distinct, systems_give_their_names}
-use Rattle.lustre_lawful.proofs.SystemOrder.{AreSorted, in-reverse, reversed-once}
+use Rattle.lustre_lawful.proofs.SystemOrder.{AreSorted, reversed-once}
 use Rattle.lustre_lawful.proofs.Texts.{numbered-name, letter-number}
 
 -- ---- Names of systems
@@ -106,7 +107,7 @@ module _ (typed : SystemsAreTyped) (r : ResolvedTree) (is : IsResolvedTree r) (s
             let some = times-of root_name (names_of function_nodes) here in
             let none : times root_name (names_of function_nodes) ≡ 0 = refl in omega (arith, some, none)
         | inr there ↦
-            true≢false (all-of (λ x. is_other_text x ≡ false) (map system_name (reverse later)) root_name (systems-text later) there)
+            true≢false (all-member (λ x. is_other_text x ≡ false) (map system_name (reverse later)) (systems-text later) root_name there)
       ]
 
   module _ (callees : List (List ℕ)) where

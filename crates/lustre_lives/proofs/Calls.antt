@@ -8,13 +8,14 @@ use Rattle.std.proofs.lemmas.List.{map-append, get_or_default}
 use Rattle.std.proofs.lemmas.List.Elements.{filter-append}
 use Rattle.diagram_blocks.specs.Kinds.{is_subsystem, is_delay}
 use Rattle.diagram_blocks.specs.Meaning.{has_value}
+use Rattle.diagram_meaning.proofs.lemmas.Agreement.{All-append_left, All-append_right}
 use Rattle.diagram_meaning.specs.Rows.{row_at, rows_of, subsystems_of}
 use Rattle.diagram_meaning.specs.Diagram.{Diagram, op_at}
 use Rattle.modules_profile.specs.Systems.{systems, system_name}
 use Rattle.emit_prelude.specs.Rules.{names}
 use Rattle.emit_shape.specs.Names.{root_name, trigger_name}
 use Rattle.lustre_syntax.specs.Tree.{set, call, NodeTree, no_node, node_at, FileTree, texts_of}
-use Rattle.lustre_syntax.specs.Named.{NamedEquation, renamed_equation, place_of, all_names}
+use Rattle.lustre_syntax.specs.Named.{NamedEquation, renamed_equation, place_of, all_names, NamedExpr}
 use Rattle.lustre_syntax.specs.Lawful.{IsLawful}
 use Rattle.lustre_settling.proofs.lemmas.Unfolded.{AreCallsFrom, calls-from}
 use Rattle.lustre_system.specs.File.{named_file, lustre_file}
@@ -22,11 +23,10 @@ use Rattle.lustre_system.specs.Functions.{function_name}
 use Rattle.lustre_system.specs.Names.{active_name, reset_name}
 use Rattle.lustre_system.specs.RowEquations.{only_if, memory_equations, value_equations, child_equations, row_equations}
 use Rattle.lustre_system.specs.SystemNodes.{active_value, reset_value, trigger_memory, has_trigger, system_equations, system_node}
+use Rattle.lustre_rows.proofs.lemmas.FunctionCalls.{memory-calls, value-calls}
 use Rattle.lustre_right.specs.Paths.{node_place, node_named, callee_of, callees}
 use Rattle.lustre_right.specs.Right.{function_count}
 use Rattle.lustre_rows.proofs.lemmas.Lists.{all-after, all-only}
-use Rattle.lustre_lives.proofs.Lists.{all-parts}
-use Rattle.lustre_lives.proofs.FunctionCalls.{CallsFunctions, AllCallFunctions, value-functions, memory-functions}
 use Rattle.lustre_lives.proofs.Nodes.{texts, later_texts, texts-placed, texts-are, node-count, system_placed, in-file, system-there}
 
 -- ---- Places of names
@@ -82,6 +82,11 @@ within-from nodes k place node_of (set line text e ∷ es) calls = (tt, within-f
 within-from nodes k place node_of (call line given callee arguments ∷ es) calls =
     (calls.0.there, within-from nodes k place node_of es calls.1)
 
+-- an equation that calls no node but those of functions
+abbrev CallsFunctions : NamedEquation → Type 0
+CallsFunctions (set line text e) = ⊤
+CallsFunctions (call line given callee arguments) = (k : ℕ) × (callee ≡ function_name k)
+
 -- the names of an instance and those of nodes have these places; the nodes of functions come first
 module _ (place node_of : List ℕ → ℕ) (bound : ℕ)
     (low : (k : ℕ) → node_of (function_name k) < bound → nat_le function_count (node_of (function_name k)) ≡ false)
@@ -103,7 +108,7 @@ module _ (place node_of : List ℕ → ℕ) (bound : ℕ)
       (flat_map-append callee_of (map (renamed_equation place node_of) xs) (map (renamed_equation place node_of) ys))
       ∙ filter-append (nat_le function_count) (callees_of xs) (callees_of ys)
 
-  functions-dropped : (es : List NamedEquation) → AllCallFunctions es → AreWithin es → kept es ≡ []
+  functions-dropped : (es : List NamedEquation) → AllByRecursion CallsFunctions es → AreWithin es → kept es ≡ []
   functions-dropped [] functions within = refl
   functions-dropped (set line text e ∷ es) functions within = functions-dropped es functions.1 within.1
   functions-dropped (call line given callee arguments ∷ es) functions within =
@@ -119,6 +124,10 @@ module _ (place node_of : List ℕ → ℕ) (bound : ℕ)
     child-kept b true = ap (λ t. cond t (child_of b ∷ []) []) (high b)
     child-kept b false = refl
 
+    function-called : (k : ℕ) (given : List (List ℕ)) (arguments : List NamedExpr) →
+        CallsFunctions (call 0 given (function_name k) arguments)
+    function-called k given arguments = (k, refl)
+
     row-kept : (b : ℕ) → AreWithin (row_equations d s b) →
         kept (row_equations d s b) ≡ (if is_subsystem (row_at d.rows b).kind then child_of b ∷ [] else [])
     row-kept b within =
@@ -126,20 +135,23 @@ module _ (place node_of : List ℕ → ℕ) (bound : ℕ)
         let own = only_if (has_value (row_at d.rows b).kind) (value_equations d s b) in
         let child = only_if (is_subsystem (row_at d.rows b).kind) (child_equations d s b) in
         let functions = all-after CallsFunctions memories own
-        (all-only CallsFunctions (is_delay (op_at d b)) (memory_equations d s b) (λ is. memory-functions d s b))
-        (all-only CallsFunctions (has_value (row_at d.rows b).kind) (value_equations d s b) (λ is. value-functions d s b)) in
+        (all-only CallsFunctions (is_delay (op_at d b)) (memory_equations d s b)
+        (λ is. memory-calls d s CallsFunctions (λ text value. tt) function-called b))
+        (all-only CallsFunctions (has_value (row_at d.rows b).kind) (value_equations d s b)
+        (λ is. value-calls d s CallsFunctions (λ text value. tt) function-called b)) in
         kept-after (memories ++ own) child
         ∙ ap (λ ks. ks ++ kept child)
-        (functions-dropped (memories ++ own) functions (all-parts (IsWithin node_of bound) (memories ++ own) child within).0)
+        (functions-dropped (memories ++ own) functions (All-append_left (IsWithin node_of bound) (memories ++ own) child within))
         ∙ child-kept b (is_subsystem (row_at d.rows b).kind)
 
     rows-kept : (bs : List ℕ) → AreWithin (flat_map (row_equations d s) bs) →
         kept (flat_map (row_equations d s) bs) ≡ map child_of (filter (λ b. is_subsystem (row_at d.rows b).kind) bs)
     rows-kept [] within = refl
     rows-kept (b ∷ bs) within =
-        let parts = all-parts (IsWithin node_of bound) (row_equations d s b) (flat_map (row_equations d s) bs) within in
-        kept-after (row_equations d s b) (flat_map (row_equations d s) bs)
-        ∙ ap₂ (λ (xs ys : List ℕ). xs ++ ys) (row-kept b parts.0) (rows-kept bs parts.1)
+        let more = flat_map (row_equations d s) bs in
+        kept-after (row_equations d s b) more
+        ∙ ap₂ (λ (xs ys : List ℕ). xs ++ ys) (row-kept b (All-append_left (IsWithin node_of bound) (row_equations d s b) more within))
+        (rows-kept bs (All-append_right (IsWithin node_of bound) (row_equations d s b) more within))
         ∙ joined (is_subsystem (row_at d.rows b).kind) (filter (λ c. is_subsystem (row_at d.rows c).kind) bs)
       where
         joined : (t : Bool) (cs : List ℕ) → (if t then child_of b ∷ [] else []) ++ map child_of cs ≡ map child_of (cond t (b ∷ cs) cs)
@@ -156,7 +168,7 @@ module _ (place node_of : List ℕ → ℕ) (bound : ℕ)
         let rest = set 0 active_name (active_value d s) ∷ set 0 reset_name (reset_value d s)
         ∷ flat_map (row_equations d s) (rows_of d.rows s) in
         kept-after trigger rest ∙ ap (λ ks. ks ++ kept rest) (trigger-dropped (has_trigger d s))
-        ∙ rows-kept (rows_of d.rows s) (all-parts (IsWithin node_of bound) trigger rest within).1.1.1
+        ∙ rows-kept (rows_of d.rows s) (All-append_right (IsWithin node_of bound) trigger rest within).1.1
 
 -- ---- Of a model's file
 

@@ -5,8 +5,6 @@ use Rattle.std.specs.List.{AllByRecursion}
 use Rattle.std.proofs.lemmas.List.{get_or_at}
 use Rattle.base_fixed_point.specs.Conversion.{InType}
 use Rattle.diagram_activity.specs.declared.TrigMem.{TrigMem}
-use Rattle.diagram_blocks.specs.declared.Kind.{Kind}
-use Rattle.diagram_blocks.specs.declared.Kind.TheVariants.{Outport}
 use Rattle.diagram_blocks.specs.Kinds.{is_outport}
 use Rattle.diagram_blocks.specs.Meaning.{has_value}
 use Rattle.diagram_meaning.specs.Rows.{row_at, rows_of, outports_of}
@@ -28,12 +26,14 @@ use Rattle.lustre_flows.specs.Instances.{Instance, no_instance}
 use Rattle.lustre_flows.specs.Ticks.{Tick, done, tick, last_node, root_outputs}
 use Rattle.lustre_flows.specs.FlowLaws.{FollowsWhole, IsTickOf}
 use Rattle.lustre_flows.specs.Flows.{Flows, flows_after, flows_from, flows, outputs}
+use Rattle.lustre_rows.proofs.lemmas.Lists.{all-members}
+use Rattle.lustre_rows.proofs.lemmas.Wires.{outport-valued}
 use Rattle.lustre_rows.specs.RunLaws.{IsRunTick}
 use Rattle.lustre_right.specs.Paths.{name_place}
 use Rattle.lustre_right.specs.Systems.{place_in, values_of_system}
 use Rattle.lustre_right.specs.TickLaws.{HadRun}
 use Rattle.lustre_right.specs.Right.{HasValue, GivesFlows}
-use Rattle.lustre_lives.proofs.Lists.{all-members, zip-length, same-maps}
+use Rattle.lustre_lives.proofs.Lists.{zip-length, same-maps}
 use Rattle.lustre_lives.proofs.Nodes.{is-system, system-there, ports-are, port-count}
 use Rattle.lustre_lives.proofs.Laws.{Laws}
 use Rattle.lustre_lives.proofs.Ticks.{file_of, IsLeft, tick-done}
@@ -53,10 +53,6 @@ values-many d s xs vs [] gs is = absurd is
 values-many d s xs vs (m ∷ ms) [] is = absurd is
 values-many d s xs vs (m ∷ ms) (g ∷ gs) is =
     values-from d s 0 (run_of.values_by d s (run_of.start_of d)) m g xs vs ms gs is.2
-
-outport-valued : (k : Kind) → is_outport k ≡ true → has_value k ≡ true
-outport-valued (Outport port reset initial) is = refl
-outport-valued _ is = absurd (cc)
 
 module _ (laws : Laws) (r : ResolvedTree) (resolved : IsResolvedTree r) (no_loop : HasNoLoop (needs_of (diagram_of r)))
     (lawful : IsLawful (file_of r)) (xs : List (List ℤ)) (trace : IsTrace (diagram_of r) None xs) (run : Run)

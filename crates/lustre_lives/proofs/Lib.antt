@@ -3,9 +3,7 @@ pub mod Lists
 pub mod Fresh
 pub mod Places
 pub mod Nodes
-pub mod FunctionCalls
 pub mod Calls
-pub mod Names
 pub mod Laws
 pub mod Ticks
 pub mod Flows

@@ -26,9 +26,9 @@ use Rattle.lustre_system.specs.Functions.{int_name, function_nodes}
 use Rattle.lustre_system.specs.Names.{port_names}
 use Rattle.lustre_system.specs.SystemNodes.{system_node}
 use Rattle.lustre_system.specs.File.{output_names, root_node, named_file, lustre_file}
+use Rattle.lustre_rows.proofs.lemmas.Lists.{in-reverse}
 use Rattle.lustre_right.specs.Paths.{node_named}
 use Rattle.lustre_right.specs.Right.{HasPorts}
-use Rattle.lustre_lives.proofs.Lists.{in-reverse}
 use Rattle.lustre_lives.proofs.Places.{node-found, last-is}
 
 -- a system of a table

@@ -1,18 +1,15 @@
 -- The equations of a system come in an order in which each reads what is known.
-use Rattle.std.specs.Prelude.{◌≡◌, ℕ, true, List, [], ◌∷◌, ◌++◌, Option}
-use Rattle.std.specs.List.{AllByRecursion}
-use Rattle.diagram_blocks.specs.Kinds.{is_delay}
+use Rattle.std.specs.Prelude.{◌≡◌, ℕ, true, [], ◌∷◌, Option}
 use Rattle.diagram_blocks.specs.Meaning.{has_value}
 use Rattle.diagram_meaning.specs.Rows.{row_at}
 use Rattle.diagram_meaning.specs.ResolvedTree.{ResolvedTree, IsResolvedTree, diagram_of}
 use Rattle.diagram_meaning.specs.SystemRuns.{IsRowOf}
 use Rattle.diagram_typed_runs.specs.TypedRuns.{IsSystem}
-use Rattle.diagram_meaning.specs.Diagram.{op_at}
 use Rattle.emit_shape.specs.Names.{trigger_name}
 use Rattle.lustre_syntax.specs.Tree.{set}
 use Rattle.lustre_system.specs.Names.{active_name, reset_name, takes_name}
-use Rattle.lustre_system.specs.RowEquations.{only_if, runs, value_equations, samples, sample_equations}
-use Rattle.lustre_system.specs.SystemNodes.{active_value, reset_value, trigger_memory, has_trigger}
+use Rattle.lustre_system.specs.RowEquations.{runs, value_equations, samples, sample_equations}
+use Rattle.lustre_system.specs.SystemNodes.{active_value, reset_value, trigger_memory}
 use Rattle.lustre_right.specs.Reads.{Known, InOrder, KnownAround, KnownInputs}
 
 -- a system's activity rests on what is around it; its trigger's memory on nothing of the tick

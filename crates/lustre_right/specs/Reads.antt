@@ -1,18 +1,17 @@
 -- The names that the equations of a system read at the tick itself, and equations in an order in
 -- which each reads what is known.
-use Rattle.std.specs.Prelude.{◌≡◌, ℕ, ◌<◌, true, List, [], ◌∷◌, ◌++◌, flat_map, Contains, Option, Some, None, ⊤, ◌⊎◌}
+use Rattle.std.specs.Prelude.{◌≡◌, ℕ, true, List, [], ◌∷◌, ◌++◌, flat_map, Contains, Option, ⊤, ◌⊎◌}
 use Rattle.std.specs.List.{AllByRecursion}
 use Rattle.base_core.specs.declared.Control.{Control}
 use Rattle.base_core.specs.declared.Control.TheVariants.{Plain, Enabled, Triggered, Both}
 use Rattle.diagram_blocks.specs.Kinds.{is_delay}
-use Rattle.diagram_blocks.specs.Meaning.{delay_length}
 use Rattle.diagram_blocks.specs.Value.{feeds_through}
 use Rattle.diagram_meaning.specs.Rows.{system_control}
 use Rattle.diagram_meaning.specs.Diagram.{Diagram, op_at}
 use Rattle.emit_shape.specs.Names.{now_name, trigger_name, control_name, second_control_name}
 use Rattle.lustre_syntax.specs.Tree.{Expr, number, truth, name, negative, negation, two, choice, arrow, previous, given_by, expressions_of}
-use Rattle.lustre_syntax.specs.Named.{NamedExpr, NamedEquation}
-use Rattle.lustre_system.specs.Names.{around_active, around_off, active_name, reset_name, sample_name, leaf_name, leaves_of}
+use Rattle.lustre_syntax.specs.Named.{NamedEquation}
+use Rattle.lustre_system.specs.Names.{around_active, around_off, sample_name, leaf_name, leaves_of}
 
 -- the names that an expression reads at this tick
 abbrev pub names_now : {N : Type 0} → Expr N → List N

@@ -10,7 +10,7 @@ use Rattle.diagram_meaning.specs.Traces.{IsTrace}
 use Rattle.modules_profile.specs.Systems.{systems, system_name}
 use Rattle.emit_prelude.specs.Rules.{names}
 use Rattle.emit_shape.specs.Names.{value_name, root_name}
-use Rattle.lustre_syntax.specs.Tree.{NodeTree, FileTree, node_texts}
+use Rattle.lustre_syntax.specs.Tree.{FileTree, node_texts}
 use Rattle.lustre_syntax.specs.Lawful.{IsLawful}
 use Rattle.lustre_rules.specs.Reading.{LustreText}
 use Rattle.lustre_flows.specs.Flows.{flows, outputs, flow_at}

@@ -9,7 +9,7 @@ use Rattle.diagram_meaning.specs.RunExamples.{row, simple, zero_initial, accumul
 use Rattle.modules_profile.specs.Systems.{systems, system_name}
 use Rattle.emit_prelude.specs.Rules.{names}
 use Rattle.emit_shape.specs.Names.{value_name, root_name}
-use Rattle.lustre_syntax.specs.Tree.{int, name, set, Declared, FileTree, node_texts}
+use Rattle.lustre_syntax.specs.Tree.{name, set, Declared, FileTree, node_texts}
 use Rattle.lustre_flows.specs.Ticks.{last_node}
 use Rattle.lustre_flows.specs.Flows.{outputs, flow_at}
 use Rattle.lustre_system.specs.Functions.{int_name}

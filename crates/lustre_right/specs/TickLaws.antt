@@ -1,7 +1,7 @@
 -- The names of a model's file have what its run has, tick by tick.
-use Rattle.std.specs.Prelude.{◌≡◌, ℕ, zero, suc, ◌%◌, ◌<◌, List, [], length, slice_index_or, Contains, Option, Some, None, ℤ, pos}
+use Rattle.std.specs.Prelude.{◌≡◌, ℕ, zero, suc, ◌%◌, List, [], length, slice_index_or, Contains, Option, Some, None, ℤ, pos}
 use Rattle.diagram_meaning.specs.Diagram.{Diagram}
-use Rattle.diagram_meaning.specs.ResolvedTree.{ResolvedTree, IsResolvedTree, diagram_of}
+use Rattle.diagram_meaning.specs.ResolvedTree.{ResolvedTree, diagram_of}
 use Rattle.diagram_meaning.specs.Laws.{Run}
 use Rattle.diagram_meaning.specs.SystemRuns.{SystemTick, system_tick}
 use Rattle.diagram_typed_runs.specs.TypedRuns.{IsSystem}
@@ -39,7 +39,8 @@ pub record HasRun (r : ResolvedTree) (xs : List (List ℤ)) (run : Run) (t : ℕ
       IsExpected (diagram_of r) r.times.hyper s (system_tick (diagram_of r) None xs run s t)
       (values_of_system (diagram_of r) r.times.hyper s left)
 
--- no tick comes before the first, and what that before another left has what the run had
+-- before the first tick nothing was left; what the tick before another one left has what the run has
+-- at it
 abbrev pub HadRun : ResolvedTree → (xs : List (List ℤ)) → Run → (t : ℕ) → Option Instance → Type 0
 HadRun r xs run t None = t ≡ 0
 HadRun r xs run zero (Some before) = ⊥

@@ -1,7 +1,6 @@
 -- Calls of the eight functions in an expression give their names what these have.
 use Rattle.std.proofs.Common.{◌≡◌, refl, sym, ap, ◌∙◌, ℕ, ◌+◌, ◌<◌, List, [], ◌∷◌, ◌++◌, length, slice_index_or, Option, ℤ, neg_ℤ, arith}
 use Rattle.std.specs.Prelude.{⊤}
-use Rattle.std.specs.List.{AllByRecursion}
 use Rattle.c_syntax.specs.declared.CType.TheVariants.{I64}
 use Rattle.c_syntax.specs.declared.Leaf.{Leaf}
 use Rattle.c_syntax.specs.declared.Why.TheVariants.{Overflow}

@@ -1,5 +1,5 @@
 -- The call for a child gives it what it reads.
-use Rattle.std.proofs.Common.{◌≡◌, refl, sym, ap, ap₂, ◌∙◌, subst, ℕ, suc, ◌+◌, ◌%◌, true, List, [], ◌∷◌, ◌++◌, length, map, slice_get, Option, Some, None, ℤ, pos, arith, inr}
+use Rattle.std.proofs.Common.{◌≡◌, refl, sym, ap, ap₂, ◌∙◌, subst, ℕ, suc, ◌+◌, ◌%◌, List, [], ◌∷◌, ◌++◌, length, map, slice_get, Option, Some, None, ℤ, pos, arith, inr}
 use Rattle.std.specs.List.{AllByRecursion, range_with_len}
 use Rattle.std.specs.Option.{option_and_then}
 use Rattle.std.proofs.lemmas.List.{map-append}
@@ -9,13 +9,11 @@ use Rattle.base_core.specs.declared.Control.{Control}
 use Rattle.base_core.specs.declared.Control.TheVariants.{Plain, Enabled, Triggered, Both}
 use Rattle.base_core.specs.declared.Port.{Port}
 use Rattle.base_core.specs.declared.Port.TheVariants.{Number, Enable, Trigger}
-use Rattle.diagram_blocks.specs.declared.Kind.{Kind}
-use Rattle.diagram_blocks.specs.declared.Kind.TheVariants.{Inport, SubSystem}
-use Rattle.diagram_blocks.specs.Kinds.{control_of, is_subsystem, is_inport, is_outport}
+use Rattle.diagram_blocks.specs.Kinds.{is_inport, is_outport}
 use Rattle.diagram_meaning.specs.declared.Row.{Row}
 use Rattle.diagram_meaning.specs.Rows.{row_at, control_at, enable_among, trigger_among, inports_of, outports_of}
 use Rattle.diagram_meaning.specs.Inputs.{input_ports, entering_wires}
-use Rattle.diagram_meaning.specs.WellFormed.{IsWireIn, reading_system, wires_wanted}
+use Rattle.diagram_meaning.specs.WellFormed.{IsWireIn, reading_system}
 use Rattle.diagram_meaning.specs.Diagram.{Diagram}
 use Rattle.diagram_meaning.proofs.lemmas.EnteringWires.{as-many, at-entering}
 use Rattle.diagram_meaning.proofs.lemmas.Ports.{ported-at}
@@ -27,6 +25,7 @@ use Rattle.lustre_system.specs.Names.{active_name, reset_name}
 use Rattle.lustre_system.specs.RowEquations.{wire_read}
 use Rattle.lustre_rows.specs.ChildLaws.{IsChild, ChildEquationsHold}
 use Rattle.lustre_rows.proofs.lemmas.Lists.{all-after, all-by-place, all-map}
+use Rattle.lustre_rows.proofs.lemmas.Wires.{child-reading, outer-reading, controls-wanted}
 
 -- ---- Which wires enter a child
 
@@ -56,22 +55,6 @@ controls-enter f (Both reset edge) (w ∷ v ∷ []) enable trigger many =
     ap₂ (λ (x y : Option ℕ). x ∷ y ∷ []) enable trigger
 controls-enter f (Both reset edge) (w ∷ v ∷ u ∷ ws) enable trigger many = absurd (omega (arith, many))
 
-count-by : (k : Kind) (o : Option ℕ) → is_subsystem k ≡ true → wires_wanted k o ≡ length (control_ports (control_of k))
-count-by (SubSystem Plain) o is = refl
-count-by (SubSystem (Enabled reset)) o is = refl
-count-by (SubSystem (Triggered edge)) o is = refl
-count-by (SubSystem (Both reset edge)) o is = refl
-count-by _ o is = absurd (cc)
-
-own-reading : (rows : List Row) (k : Kind) (o : Option ℕ) → is_subsystem k ≡ true → reading_system rows k o ≡ o
-own-reading rows (Inport port) o is = absurd (cc)
-own-reading rows _ o is = refl
-
-outer-reading : (rows : List Row) (k : Kind) (o : Option ℕ) (e : ℕ) → is_inport k ≡ true → o ≡ Some e →
-    reading_system rows k o ≡ (row_at rows e).owner
-outer-reading rows (Inport port) o e is own = ap (reading_system rows (Inport port)) own
-outer-reading rows _ o e is own = absurd (cc)
-
 module _ (rows : List Row) (s : Option ℕ) (e : ℕ) (child : IsChild rows s e) where
   abbrev entering : List ℕ
   entering = entering_wires rows (Some e)
@@ -94,7 +77,7 @@ module _ (rows : List Row) (s : Option ℕ) (e : ℕ) (child : IsChild rows s e)
       subst (λ n. map f (map Number (range_with_len 1 n)) ≡ map Some entering) (as-many rows child.wired e child.inports)
       (numbered f entering 1 enters-at) in
       let second = controls-enter f c own_wires refl refl
-      (child.wired.counts e child.row.in_table ∙ count-by (row_at rows e).kind (row_at rows e).owner child.subsystem) in
+      (child.wired.counts e child.row.in_table ∙ controls-wanted (row_at rows e).kind (row_at rows e).owner child.subsystem) in
       map-append f numbers (control_ports c) ∙ ap₂ (λ (xs ys : List (Option ℕ)). xs ++ ys) first second
       ∙ sym (map-append {A = ℕ} Some entering own_wires)
 
@@ -116,7 +99,7 @@ module _ (rows : List Row) (s : Option ℕ) (e : ℕ) (child : IsChild rows s e)
   controls-wired : AllByRecursion (IsWireIn rows s) own_wires
   controls-wired =
       subst (λ (o : Option ℕ). AllByRecursion (IsWireIn rows o) own_wires)
-      (own-reading rows (row_at rows e).kind (row_at rows e).owner child.subsystem ∙ child.row.own)
+      (child-reading rows (row_at rows e).kind (row_at rows e).owner child.subsystem ∙ child.row.own)
       (child.wired.wires e child.row.in_table)
 
   outport-wired : (k o : ℕ) → slice_get (outports_of rows (Some e)) k ≡ Some o → IsWireIn rows s o

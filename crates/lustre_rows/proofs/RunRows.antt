@@ -1,50 +1,36 @@
 -- In a run of a model without a loop rows are timed, and can be computed from what they read.
-use Rattle.std.proofs.Common.{◌≡◌, refl, sym, ap, ◌∙◌, subst, ℕ, zero, suc, ◌-◌, ◌<◌, Bool, true, false, if◌then◌else◌, List, [], ◌∷◌, length, map, slice_index_or, Option, Some, None, ℤ, arith, inl, inr}
+use Rattle.std.proofs.Common.{◌≡◌, refl, sym, ◌∙◌, subst, ℕ, zero, suc, ◌-◌, ◌<◌, Bool, true, false, if◌then◌else◌, List, [], ◌∷◌, length, map, slice_index_or, Option, Some, None, ℤ, inl, inr}
 use Rattle.std.specs.List.{AllByRecursion}
 use Rattle.base_core.specs.Numbers.{int_at}
 use Rattle.base_fixed_point.specs.declared.FixType.{FixType}
 use Rattle.base_fixed_point.specs.Conversion.{InType}
 use Rattle.diagram_blocks.specs.declared.Kind.{Kind}
-use Rattle.diagram_blocks.specs.declared.Kind.TheVariants.{Inport, UnitDelay, Delay, RateTransition}
+use Rattle.diagram_blocks.specs.declared.Kind.TheVariants.{Inport}
 use Rattle.diagram_blocks.specs.declared.Op.{Op}
 use Rattle.diagram_blocks.specs.declared.Op.TheVariants as op
-use Rattle.diagram_blocks.specs.Kinds.{is_inport, port_of, is_delay}
-use Rattle.diagram_blocks.specs.Meaning.{op_of, delay_length}
+use Rattle.diagram_blocks.specs.Kinds.{is_inport, port_of}
+use Rattle.diagram_blocks.specs.Meaning.{op_of}
 use Rattle.diagram_meaning.specs.declared.table.Row.{Row}
-use Rattle.diagram_meaning.specs.Rows.{row_at, no_row}
+use Rattle.diagram_meaning.specs.Rows.{row_at}
 use Rattle.diagram_meaning.specs.Diagram.{Diagram, type_at, op_at}
 use Rattle.diagram_meaning.specs.ResolvedLaws.{HitsRepeat}
 use Rattle.diagram_meaning.specs.ResolvedTree.{ResolvedTree, diagram_of}
-use Rattle.diagram_meaning.specs.Run.{start_of}
-use Rattle.diagram_meaning.specs.RunLaws.{IsSystemWithin}
 use Rattle.diagram_meaning.specs.Laws.{Run}
-use Rattle.diagram_meaning.specs.SystemRuns.{SystemTick, own_inputs, system_tick, RunsAreOfSystems}
-use Rattle.diagram_meaning.specs.WellFormed.{IsOwner, IsWireIn, reading_system, IsKind, IsRow}
-use Rattle.diagram_meaning.proofs.lemmas.Resolving.{all-at}
+use Rattle.diagram_meaning.specs.SystemRuns.{SystemTick, own_inputs, system_tick}
+use Rattle.diagram_meaning.specs.WellFormed.{IsOwner, IsWireIn}
 use Rattle.diagram_typed_runs.specs.TypedRuns.{IsSystem, IsTypedTick, TicksAreTyped}
 use Rattle.diagram_typed_runs.proofs.lemmas.Evaluable.{op-is}
 use Rattle.emit_row_code.specs.KnownTypes.{IsOfType, AreTypesOf}
-use Rattle.emit_row_code.proofs.lemmas.Conversions.{in_type_small}
 use Rattle.lustre_rows.specs.RunLaws.{IsRunRow, RowsOfRunsAreTimed, RowsOfRunsAreComputed}
+use Rattle.lustre_rows.proofs.lemmas.RowFacts.{remembers, start-small}
+use Rattle.lustre_rows.proofs.lemmas.Wires.{own-reading, within-root}
 
 -- ---- By kinds
-
-remembers-by : (k : Kind) (ts : List FixType) (out : FixType) (delays : Bool) → IsKind k → is_delay (op_of k ts out delays) ≡ true →
-    0 < delay_length (op_of k ts out delays)
-remembers-by (UnitDelay initial) ts out delays limits is = omega arith
-remembers-by (Delay samples initial) ts out delays limits is = limits.0
-remembers-by (RateTransition initial time) ts out true limits is = omega arith
-remembers-by (RateTransition initial time) ts out false limits is = absurd (cc)
-remembers-by _ ts out delays limits is = absurd (cc)
 
 copied-typed : (k : Kind) (ts : List FixType) (out : FixType) (delays : Bool) (types : List FixType) (vs : List ℤ) → is_inport k ≡ true →
     AreTypesOf (op_of k ts out delays) types vs
 copied-typed (Inport port) ts out delays types vs is = tt
 copied-typed _ ts out delays types vs is = absurd (cc)
-
-reads-own : (rows : List Row) (k : Kind) (o : Option ℕ) → is_inport k ≡ false → reading_system rows k o ≡ o
-reads-own rows (Inport port) o is = absurd (cc)
-reads-own rows _ o is = refl
 
 all-typed : (o : Op) (types : List FixType) (vs : List ℤ) → ((i : ℕ) → IsOfType types vs i) → AreTypesOf o types vs
 all-typed (op.Gain m frac to how) types vs all = all 0
@@ -54,13 +40,9 @@ all-typed (op.Switch criterion threshold fracs to how) types vs all = all
 all-typed (op.Convert frac to how) types vs all = all 0
 all-typed _ types vs all = tt
 
-pub within-root : (rows : List Row) (n : Option ℕ) → IsSystemWithin rows None n
-within-root rows None = refl
-within-root rows (Some e) = refl
-
 -- ---- Rows of a run
 
-module _ (typed_law : TicksAreTyped) (run_law : RunsAreOfSystems) (r : ResolvedTree) (xs : List (List ℤ)) (run : Run) (n : Option ℕ)
+module _ (typed_law : TicksAreTyped) (r : ResolvedTree) (xs : List (List ℤ)) (run : Run) (n : Option ℕ)
     (t b : ℕ) (at : IsRunRow r xs run n t b) where
   abbrev rows : List Row
   rows = r.tree.table.rows
@@ -71,13 +53,6 @@ module _ (typed_law : TicksAreTyped) (run_law : RunsAreOfSystems) (r : ResolvedT
   typed : (k : Option ℕ) → IsSystem rows k → (u : ℕ) → u < length xs → IsTypedTick d k (system_tick d None xs run k u)
   typed k system u within =
       typed_law r None k xs run u at.tick.resolved system (within-root rows k) at.tick.is_run at.tick.trace at.tick.no_loop within
-
-  start-typed : InType (type_at d.types b) (start_of d b)
-  start-typed =
-      let some : 0 < length xs = omega (arith, at.tick.within) in
-      subst (λ v. InType (type_at d.types b) v)
-      ((run_law r None n xs run at.tick.resolved (within-root rows n) at.tick.is_run).first.starts b at.row)
-      ((typed n at.tick.system 0 some).before b at.row)
 
   abbrev tick : SystemTick
   tick = system_tick d None xs run n t
@@ -118,28 +93,21 @@ module _ (typed_law : TicksAreTyped) (run_law : RunsAreOfSystems) (r : ResolvedT
           (copied-typed own_kind own_types (type_at r.types b) (slice_index_or r.times.delays b false) own_types vs is)
       by false is =
           let wires = subst (λ (o : Option ℕ). AllByRecursion (IsWireIn rows o) own_wires)
-          (reads-own rows own_kind (row_at rows b).owner is ∙ at.row.own)
+          (own-reading rows own_kind (row_at rows b).owner is ∙ at.row.own)
           (at.tick.resolved.tree.table.wired.wires b at.row.in_table) in
           all-typed (op_at d b) own_types (map tick.value own_wires) (inputs-typed own_wires wires)
 
-  remembers : is_delay (op_at d b) ≡ true → 0 < delay_length (op_at d b)
-  remembers is =
-      let limits : IsKind own_kind = (all-at IsRow rows b no_row at.tick.resolved.tree.table.each at.row.in_table).kind in
-      subst (λ (o : Op). 0 < delay_length o) (sym is-op)
-      (remembers-by own_kind own_types (type_at r.types b) (slice_index_or r.times.delays b false) limits
-      (ap is_delay (sym is-op) ∙ is))
-
-pub rows_of_runs_are_timed : TicksAreTyped → RunsAreOfSystems → HitsRepeat → RowsOfRunsAreTimed
-rows_of_runs_are_timed typed_law run_law repeat r xs run n t b at = record {
+pub rows_of_runs_are_timed : HitsRepeat → RowsOfRunsAreTimed
+rows_of_runs_are_timed repeat r xs run n t b at = record {
   row = at.row;
   hits = repeat r.tree.table r.times b t at.tick.resolved.resolved.are_times at.row.in_table;
-  start = in_type_small (type_at r.types b) (start_of (diagram_of r) b) (start-typed typed_law run_law r xs run n t b at);
+  start = start-small r at.tick.resolved b at.row.in_table;
 }
 
-pub rows_of_runs_are_computed : TicksAreTyped → RunsAreOfSystems → RowsOfRunsAreComputed
-rows_of_runs_are_computed typed_law run_law r xs run n t b at valued = record {
+pub rows_of_runs_are_computed : TicksAreTyped → RowsOfRunsAreComputed
+rows_of_runs_are_computed typed_law r xs run n t b at valued = record {
   valued = valued;
-  evaluable = (typed typed_law run_law r xs run n t b at n at.tick.system t at.tick.within).evaluable b at.row;
-  typed = own-typed typed_law run_law r xs run n t b at;
-  remembers = remembers typed_law run_law r xs run n t b at;
+  evaluable = (typed typed_law r xs run n t b at n at.tick.system t at.tick.within).evaluable b at.row;
+  typed = own-typed typed_law r xs run n t b at;
+  remembers = remembers r at.tick.resolved b at.row.in_table;
 }

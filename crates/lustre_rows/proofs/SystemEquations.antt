@@ -1,18 +1,16 @@
 -- All equations of the node of a system hold.
-use Rattle.std.proofs.Common.{◌≡◌, refl, subst, ℕ, zero, suc, ◌+◌, ◌<◌, ◌≤◌, Bool, true, false, if◌then◌else◌, List, [], ◌∷◌, ◌++◌, length, Option, None, Some, ℤ, arith, append_assoc, inl, inr}
-use Rattle.std.specs.List.{AllByRecursion, range_with_len, flat_map, filter}
+use Rattle.std.proofs.Common.{refl, subst, ℕ, List, [], ◌∷◌, ◌++◌, Option, None, Some, ℤ, arith, append_assoc, inl, inr}
+use Rattle.std.specs.List.{AllByRecursion, flat_map}
 use Rattle.base_fixed_point.specs.Rounding.{RoundingIsOne}
 use Rattle.diagram_blocks.specs.Kinds.{is_subsystem, is_delay}
 use Rattle.diagram_blocks.specs.Laws.{NarrowRowsFit}
 use Rattle.diagram_blocks.specs.Meaning.{has_value}
-use Rattle.diagram_meaning.specs.declared.Row.{Row}
-use Rattle.diagram_meaning.specs.Rows.{row_at, rows_of, row_numbers, same_system}
+use Rattle.diagram_meaning.specs.Rows.{row_at, rows_of}
 use Rattle.diagram_meaning.specs.Diagram.{Diagram, op_at}
 use Rattle.diagram_meaning.specs.ResolvedLaws.{HitsRepeat, CyclesHaveTicks, ResolvedCyclesAreShort}
 use Rattle.diagram_meaning.specs.ResolvedTree.{ResolvedTree, diagram_of}
 use Rattle.diagram_meaning.specs.Laws.{Run}
 use Rattle.diagram_meaning.specs.SystemRuns.{SystemTick, IsRowOf, system_tick, IsSystemTick, RunsAreOfSystems, ChildrenMeetParents}
-use Rattle.diagram_meaning.proofs.lemmas.RestsOnNeeds.{same_system-equal}
 use Rattle.diagram_typed_runs.specs.TypedRuns.{TicksAreTyped}
 use Rattle.emit_prelude.specs.Rules.{WholeNumbersStay}
 use Rattle.emit_row_code.specs.Laws.{RowsAreComputed}
@@ -33,7 +31,8 @@ use Rattle.lustre_rows.proofs.Activity.{activity_equations_hold}
 use Rattle.lustre_rows.proofs.Memories.{memory_equations_hold}
 use Rattle.lustre_rows.proofs.ValueEquations.{value_equations_hold}
 use Rattle.lustre_rows.proofs.ChildCalls.{child_equations_hold}
-use Rattle.lustre_rows.proofs.RunRows.{within-root, rows_of_runs_are_timed, rows_of_runs_are_computed}
+use Rattle.lustre_rows.proofs.lemmas.Wires.{within-root}
+use Rattle.lustre_rows.proofs.RunRows.{rows_of_runs_are_timed, rows_of_runs_are_computed}
 
 -- ---- The laws that it takes
 
@@ -83,7 +82,7 @@ module _ (laws : Laws) (r : ResolvedTree) (xs : List (List ℤ)) (run : Run) (n 
   rows-hold : (b : ℕ) → IsRowOf d.rows n b → AllByRecursion Holds (row_equations d n b)
   rows-hold b row =
       let run_row : IsRunRow r xs run n t b = record { tick = at; row = row } in
-      let timed = rows_of_runs_are_timed laws.typed laws.runs laws.repeat r xs run n t b run_row in
+      let timed = rows_of_runs_are_timed laws.repeat r xs run n t b run_row in
       let memories = only_if (is_delay (op_at d b)) (memory_equations d n b) in
       let own = only_if (has_value (row_at d.rows b).kind) (value_equations d n b) in
       all-after Holds (memories ++ own) (only_if (is_subsystem (row_at d.rows b).kind) (child_equations d n b))
@@ -94,7 +93,7 @@ module _ (laws : Laws) (r : ResolvedTree) (xs : List (List ℤ)) (run : Run) (n 
       (λ valued. own-hold (value_equations d n b)
       (value_equations_hold laws.computed laws.same laws.stay laws.one laws.narrow d r.times.hyper n m before values place b
       tick system timed
-      (rows_of_runs_are_computed laws.typed laws.runs r xs run n t b run_row valued)))))
+      (rows_of_runs_are_computed laws.typed r xs run n t b run_row valued)))))
       (all-only Holds (is_subsystem (row_at d.rows b).kind) (child_equations d n b)
       (λ subsystem. all-map (CallsChild d r.times.hyper before values place b (inner b)) Holds (λ x holds. inr (b, row, holds))
       (child_equations d n b)

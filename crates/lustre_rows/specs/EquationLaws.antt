@@ -37,7 +37,8 @@ pub record CallsFunction (before : Option (List (Option ℤ))) (values : List (O
       called (nodes_before more) function numbers ≡ Some result
   pub has_result : map (λ text. value_at values (place text)) texts ≡ Some result ∷ []
 
--- an equation gives its name what this has
+-- an equation holds: its name has the value of its expression, or that of a call what the function
+-- gives
 abbrev pub GivesItsName : Option (List (Option ℤ)) → List (Option ℤ) → (List ℕ → ℕ) →
     NamedEquation → Type 0
 GivesItsName before values place (set line text e) =

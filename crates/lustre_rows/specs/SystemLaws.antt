@@ -12,7 +12,7 @@ use Rattle.lustre_rows.specs.EquationLaws.{GivesItsName}
 use Rattle.lustre_rows.specs.ChildLaws.{CallsChild}
 use Rattle.lustre_rows.specs.RunLaws.{IsRunTick}
 
--- an equation gives its name what this has, or calls a child, which has this tick
+-- an equation holds, where each child of the system has such a tick
 abbrev pub HoldsInTick : Diagram → ℕ → Option ℕ → Option (List (Option ℤ)) → List (Option ℤ) →
     (List ℕ → ℕ) → (ℕ → SystemTick) → NamedEquation → Type 0
 HoldsInTick d hyper s before values place inner equation =

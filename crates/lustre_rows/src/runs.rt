@@ -16,8 +16,6 @@ use lustre_functions::nodes_give_the_same;
 pub fn rows_of_runs_are_timed()
     ensures { RowsOfRunsAreTimed }
 {
-    ticks_are_typed();
-    runs_are_of_systems();
     hits_repeat();
 }
 
@@ -26,7 +24,6 @@ pub fn rows_of_runs_are_computed()
     ensures { RowsOfRunsAreComputed }
 {
     ticks_are_typed();
-    runs_are_of_systems();
 }
 
 /// In a run of a model without a loop all equations of a system's node hold, where its names have what the run has.

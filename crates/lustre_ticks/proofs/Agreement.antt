@@ -12,8 +12,7 @@ use Rattle.lustre_rows.specs.EquationLaws.{GivesItsName}
 use Rattle.lustre_right.specs.Reads.{names_now, equation_reads, Known, KnownAfter, InOrder}
 use Rattle.lustre_right.specs.Systems.{named_value, named_outcome, EquationHolds, HasArguments}
 use Rattle.diagram_meaning.proofs.lemmas.Agreement.{All-append_left, All-append_right}
-use Rattle.lustre_ticks.proofs.Lists.{all-member}
-use Rattle.lustre_rows.proofs.lemmas.Lists.{all-map}
+use Rattle.lustre_rows.proofs.lemmas.Lists.{all-map, all-member}
 use Rattle.lustre_ticks.proofs.Setting.{Setting, d, hyper, solved, olds, place, IsKnown}
 
 -- ---- Expressions
@@ -131,6 +130,6 @@ module _ (g : Setting) (s : Option ℕ) where
         done,
         in-order (KnownAfter known e) (λ text after. elim after [
           | inl early ↦ into text early
-          | inr given ↦ all-member (IsKnown g s) (given_by e) text done.0 given
+          | inr given ↦ all-member (IsKnown g s) (given_by e) done.0 text given
         ]) es hold.1 gives_them.1 order.1,
       )

@@ -8,13 +8,10 @@ use Rattle.base_core.specs.declared.Control.{Control}
 use Rattle.base_core.specs.declared.Control.TheVariants.{Plain, Enabled, Triggered, Both}
 use Rattle.base_core.specs.declared.Port.{Port}
 use Rattle.base_core.specs.declared.Port.TheVariants.{Enable, Trigger}
-use Rattle.diagram_blocks.specs.declared.Kind.{Kind}
-use Rattle.diagram_blocks.specs.declared.Kind.TheVariants.{Inport, SubSystem}
-use Rattle.diagram_blocks.specs.Kinds.{is_subsystem, control_of}
-use Rattle.diagram_meaning.specs.declared.Row.{Row}
+use Rattle.diagram_blocks.specs.Kinds.{is_subsystem}
 use Rattle.diagram_meaning.specs.Rows.{row_at, system_control, is_triggered, is_enabled, enable_count, enable_among, trigger_among, inports_of}
 use Rattle.diagram_meaning.specs.SystemRuns.{SystemTick, IsRowOf}
-use Rattle.diagram_meaning.specs.WellFormed.{IsWireIn, reading_system, wires_wanted}
+use Rattle.diagram_meaning.specs.WellFormed.{IsWireIn, reading_system}
 use Rattle.diagram_typed_runs.specs.TypedRuns.{IsSystem}
 use Rattle.modules_profile.specs.Systems.{entering_wire}
 use Rattle.c_syntax.specs.declared.Leaf.TheVariants.{Param}
@@ -30,25 +27,14 @@ use Rattle.lustre_rows.proofs.lemmas.ParamNames.{enable-named, trigger-named}
 use Rattle.lustre_right.specs.Reads.{KnownControls, KnownAround}
 use Rattle.lustre_right.specs.Systems.{root_place}
 use Rattle.modules_profile.proofs.lemmas.Members.{below-at, in-at}
-use Rattle.lustre_ticks.proofs.Lists.{all-member, number-at}
+use Rattle.lustre_rows.proofs.lemmas.Lists.{all-member}
+use Rattle.lustre_rows.proofs.lemmas.Wires.{child-reading, controls-wanted}
+use Rattle.lustre_ticks.proofs.Lists.{number-at}
 use Rattle.lustre_ticks.proofs.Setting.{Setting, d, rows, hyper, tick_of, solved, place, IsKnown, names, known-value, known-by}
 use Rattle.lustre_ticks.proofs.Agreement.{in-order}
 use Rattle.lustre_ticks.proofs.Held.{trigger-holds, trigger-gives, active-holds, active-gives, meets}
 use Rattle.lustre_ticks.proofs.Count.{root-holds, counts}
 use Rattle.lustre_ticks.proofs.Inputs.{first-below, second-below, third-below, now-place, on-place, off-place, control-port, port-total, param-place, first-input, second-input, third-input, wire-input}
-
--- ---- Kinds
-
-controls-wanted : (k : Kind) (o : Option ℕ) → is_subsystem k ≡ true → wires_wanted k o ≡ length (control_ports (control_of k))
-controls-wanted (SubSystem Plain) o is = refl
-controls-wanted (SubSystem (Enabled reset)) o is = refl
-controls-wanted (SubSystem (Triggered edge)) o is = refl
-controls-wanted (SubSystem (Both reset edge)) o is = refl
-controls-wanted _ o is = absurd (cc)
-
-pub reads-own : (table : List Row) (k : Kind) (o : Option ℕ) → is_subsystem k ≡ true → reading_system table k o ≡ o
-reads-own table (Inport port) o is = absurd (cc)
-reads-own table _ o is = refl
 
 -- ---- What is known of a system's activity
 
@@ -118,9 +104,9 @@ module _ (g : Setting) (o : Option ℕ) (system : IsSystem (rows g) o) (e : ℕ)
 
   control-wired : (c : ℕ) → Contains own_wires c → IsWireIn (rows g) o c
   control-wired c m =
-      subst (λ (s : Option ℕ). IsWireIn (rows g) s c) (reads-own (rows g) (row_at (rows g) e).kind (row_at (rows g) e).owner is ∙ row.own)
-      (all-member (IsWireIn (rows g) (reading_system (rows g) (row_at (rows g) e).kind (row_at (rows g) e).owner)) own_wires c
-      (g.tick.resolved.tree.table.wired.wires e row.in_table) m)
+      subst (λ (s : Option ℕ). IsWireIn (rows g) s c) (child-reading (rows g) (row_at (rows g) e).kind (row_at (rows g) e).owner is ∙ row.own)
+      (all-member (IsWireIn (rows g) (reading_system (rows g) (row_at (rows g) e).kind (row_at (rows g) e).owner)) own_wires
+      (g.tick.resolved.tree.table.wired.wires e row.in_table) c m)
 
   -- a control has the value of its wire
   control-known : (j i : ℕ) (p : Port) (text : List ℕ) → i ≡ many + j → slice_get (control_ports control) j ≡ Some p →

@@ -20,11 +20,10 @@ use Rattle.lustre_settling.proofs.lemmas.Given.{times, times-other, other-given}
 use Rattle.lustre_system.specs.Functions.{int_name}
 use Rattle.lustre_system.specs.Names.{port_names, leaf_name}
 use Rattle.lustre_system.specs.SystemNodes.{system_inputs, system_equations, system_node}
-use Rattle.lustre_rows.proofs.lemmas.Lists.{all-after}
+use Rattle.lustre_rows.proofs.lemmas.Lists.{all-after, all-mapped}
 use Rattle.lustre_rows.proofs.lemmas.ParamNames.{enable-named, trigger-named}
 use Rattle.lustre_right.specs.Reads.{KnownControls}
 use Rattle.lustre_right.specs.Systems.{system_texts}
-use Rattle.lustre_ticks.proofs.Lists.{all-mapped}
 use Rattle.lustre_ticks.proofs.Setting.{Setting, d, rows, solved, place, KnownAt, IsKnown, known-value}
 use Rattle.lustre_ticks.proofs.Agreement.{Given}
 use Rattle.lustre_ticks.proofs.NodeNames.{callees, node, lawful-node}

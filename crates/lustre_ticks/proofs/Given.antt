@@ -15,16 +15,14 @@ use Rattle.lustre_syntax.specs.Tree.{set}
 use Rattle.lustre_system.specs.Names.{active_name, reset_name, takes_name}
 use Rattle.lustre_system.specs.RowEquations.{only_if, runs, memory_equations, value_equations, child_equations, row_equations}
 use Rattle.lustre_system.specs.SystemNodes.{active_value, reset_value, trigger_memory, has_trigger, system_equations}
-use Rattle.lustre_rows.proofs.lemmas.Lists.{all-after, all-map, all-only, all-joined, own-rows}
-use Rattle.lustre_right.specs.ReadLaws.{IsReadRow}
-use Rattle.lustre_ticks.proofs.Lists.{all-members, all-mapped}
+use Rattle.lustre_rows.proofs.lemmas.Lists.{all-after, all-map, all-only, all-joined, own-rows, all-members, all-mapped}
+use Rattle.lustre_rows.proofs.lemmas.Systems.{system-below}
 use Rattle.lustre_ticks.proofs.Setting.{Setting, d, rows, IsKnown}
 use Rattle.lustre_ticks.proofs.Agreement.{Given, Done, in-order}
-use Rattle.lustre_ticks.proofs.NodeNames.{system-below}
 use Rattle.lustre_ticks.proofs.Held.{memories-hold, memories-give}
 use Rattle.lustre_ticks.proofs.Around.{KnowsActivity, trigger-known}
 use Rattle.lustre_ticks.proofs.Wires.{BelowSystem, activity-known}
-use Rattle.lustre_ticks.proofs.Rows.{row-known, samples-done, values-done}
+use Rattle.lustre_ticks.proofs.Rows.{reading, row-known, samples-done, values-done}
 
 all-below : (table : List Row) (s : Option ℕ) → IsSystem table s → BelowSystem (length table) s
 all-below table None system = tt
@@ -40,20 +38,11 @@ module _ (g : Setting) (s : Option ℕ) (system : IsSystem (rows g) s) where
   -- ---- Rows
 
   module _ (b : ℕ) (row : IsRowOf (rows g) s b) where
-    reading : IsReadRow g.r s b (IsKnown g s)
-    reading = record {
-      resolved = g.tick.resolved;
-      system = system;
-      row = row;
-      around = activity.around;
-      active = activity.active;
-    }
-
     pub memories-done : is_delay (op_at (d g) b) ≡ true → AllByRecursion (Done g s) (memory_equations (d g) s b)
     memories-done delay =
         let taking = in-order g s (IsKnown g s) (λ text known. known) (set 0 (takes_name b) (runs (d g) s b) ∷ [])
         ((memories-hold g s system b row delay).0, tt) ((memories-give g s system b row delay).0, tt)
-        (g.laws.taking_order g.r s b (IsKnown g s) reading) in
+        (g.laws.taking_order g.r s b (IsKnown g s) (reading g s system b row activity)) in
         (taking.0, samples-done g s system b row delay)
 
     pub row-values-done : has_value (row_at (rows g) b).kind ≡ true → AllByRecursion (Done g s) (value_equations (d g) s b)

@@ -3,10 +3,8 @@ use Rattle.std.proofs.Common.{◌≡◌, refl, ℕ, zero, suc, ◌<◌, true, Li
 use Rattle.std.specs.List.{AllByRecursion}
 use Rattle.diagram_blocks.specs.Kinds.{is_subsystem, is_delay}
 use Rattle.diagram_blocks.specs.Meaning.{has_value}
-use Rattle.diagram_meaning.specs.declared.Row.{Row}
 use Rattle.diagram_meaning.specs.Rows.{row_at, rows_of}
 use Rattle.diagram_meaning.specs.Diagram.{op_at}
-use Rattle.diagram_meaning.specs.RunLaws.{IsSystemWithin}
 use Rattle.diagram_meaning.specs.SystemRuns.{IsRowOf, IsSystemRun, MeetsParent, system_tick}
 use Rattle.diagram_typed_runs.specs.TypedRuns.{IsSystem}
 use Rattle.emit_shape.specs.Names.{trigger_name}
@@ -24,13 +22,10 @@ use Rattle.lustre_right.specs.Systems.{values_of_system}
 use Rattle.lustre_right.specs.TickLaws.{HadRun}
 use Rattle.diagram_meaning.proofs.lemmas.Agreement.{All-append_left, All-append_right}
 use Rattle.modules_profile.proofs.lemmas.PortRows.{in-rows}
+use Rattle.lustre_rows.proofs.lemmas.Wires.{within-root}
 use Rattle.lustre_ticks.proofs.Lists.{all-kept, all-among}
 use Rattle.lustre_ticks.proofs.Setting.{Setting, d, rows, hyper, tick_of, olds, place, names, system-tick}
 use Rattle.lustre_ticks.proofs.Agreement.{Holds, Gives}
-
-pub within-root : (table : List Row) (n : Option ℕ) → IsSystemWithin table None n
-within-root table None = refl
-within-root table (Some e) = refl
 
 module _ (g : Setting) (s : Option ℕ) (system : IsSystem (rows g) s) where
   run-of : IsSystemRun (d g) s (length g.xs) (system_tick (d g) None g.xs g.run s)

@@ -7,17 +7,14 @@ use Rattle.std.proofs.lemmas.List.FromFn.{get_or-map-range_with_len}
 use Rattle.base_core.specs.Numbers.{int_at}
 use Rattle.base_core.specs.Ports.{control_ports}
 use Rattle.base_core.specs.declared.Port.TheVariants.{Number}
-use Rattle.diagram_blocks.specs.declared.Kind.{Kind}
-use Rattle.diagram_blocks.specs.declared.Kind.TheVariants.{Inport}
 use Rattle.diagram_blocks.specs.Kinds.{is_subsystem, is_inport, port_of}
-use Rattle.diagram_meaning.specs.declared.Row.{Row}
 use Rattle.diagram_meaning.specs.Rows.{row_at, system_control, same_system, is_inport_of, inports_of, column}
 use Rattle.diagram_meaning.specs.Inputs.{entering_wires}
 use Rattle.diagram_meaning.specs.Needs.{IsInputRow}
 use Rattle.diagram_meaning.specs.Run.{value_at as run_value}
 use Rattle.diagram_meaning.specs.SystemRuns.{IsRowOf}
 use Rattle.diagram_meaning.specs.Traces.{IsTraceRow}
-use Rattle.diagram_meaning.specs.WellFormed.{IsWireIn, HasPorts, reading_system}
+use Rattle.diagram_meaning.specs.WellFormed.{IsWireIn, HasPorts}
 use Rattle.diagram_meaning.proofs.lemmas.EnteringWires.{entering-at}
 use Rattle.diagram_meaning.proofs.lemmas.Ports.{IsPorted, at-own-port, has-port}
 use Rattle.diagram_meaning.proofs.lemmas.Resolving.{all-at}
@@ -34,9 +31,11 @@ use Rattle.lustre_system.specs.Names.{port_names, leaf_name}
 use Rattle.lustre_rows.specs.NamesOfTick.{leaf_value}
 use Rattle.modules_profile.proofs.lemmas.Members.{in-first}
 use Rattle.modules_profile.proofs.lemmas.PortRows.{same-self}
-use Rattle.lustre_ticks.proofs.Lists.{all-member, number-at}
+use Rattle.lustre_rows.proofs.lemmas.Lists.{all-member}
+use Rattle.lustre_rows.proofs.lemmas.Systems.{system-below}
+use Rattle.lustre_rows.proofs.lemmas.Wires.{outer-reading}
+use Rattle.lustre_ticks.proofs.Lists.{number-at}
 use Rattle.lustre_ticks.proofs.Setting.{Setting, d, rows, tick_of, solved, place, IsKnown, names, known-value, known-by}
-use Rattle.lustre_ticks.proofs.NodeNames.{system-below}
 use Rattle.lustre_ticks.proofs.Inputs.{number-port, port-total, param-place, wire-input}
 use Rattle.lustre_ticks.proofs.Around.{root-input}
 use Rattle.lustre_ticks.proofs.Wires.{KnownRow, known-wire, owner-system}
@@ -45,11 +44,6 @@ some-at : (vs : List ℤ) (k : ℕ) → k < length vs → value_at (map Some vs)
 some-at [] k below = absurd (omega (arith, below))
 some-at (v ∷ vs) zero below = refl
 some-at (v ∷ vs) (suc k) below = some-at vs k (omega (arith, below))
-
-reads-outside : (table : List Row) (k : Kind) (o : Option ℕ) (e : ℕ) → is_inport k ≡ true → o ≡ Some e →
-    reading_system table k o ≡ (row_at table e).owner
-reads-outside table (Inport port) o e is own = ap (reading_system table (Inport port)) own
-reads-outside table _ o e is own = absurd (cc)
 
 module _ (g : Setting) (s : Option ℕ) (system : IsSystem (rows g) s) (b : ℕ) (row : IsRowOf (rows g) s b)
     (is : is_inport (row_at (rows g) b).kind ≡ true) where
@@ -129,9 +123,9 @@ inner-inport g e b system row is wires =
     let (c, one, entering) = entering-at (rows g) wired e (g.tick.resolved.tree.table.inports (Some e)) k b there in
     let member : Contains own c = subst (λ (cs : List ℕ). Contains cs c) (sym one) (in-first c []) in
     let wire : IsWireIn (rows g) o c =
-    all-member (IsWireIn (rows g) o) own c
+    all-member (IsWireIn (rows g) o) own
     (subst (λ (q : Option ℕ). AllByRecursion (IsWireIn (rows g) q) own)
-    (reads-outside (rows g) (row_at (rows g) b).kind (row_at (rows g) b).owner e is row.own) (wired.wires b row.in_table)) member in
+    (outer-reading (rows g) (row_at (rows g) b).kind (row_at (rows g) b).owner e is row.own) (wired.wires b row.in_table)) c member in
     let w = (tick_of g o).value c in
     let here : value_at (solved g o) (place g o (value_name c)) ≡ Some w =
     known-value g o (place g o (value_name c)) w (known-wire g o c (wires c member) wire) ((names g o outside).wires c wire) in

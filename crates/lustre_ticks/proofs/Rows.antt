@@ -3,8 +3,6 @@ use Rattle.std.proofs.Common.{◌≡◌, refl, sym, ◌∙◌, subst, ℕ, zero,
 use Rattle.std.specs.List.{AllByRecursion, range_with_len}
 use Rattle.std.proofs.lemmas.List.Elements.{Contains-append_left, Contains-append_right}
 use Rattle.std.proofs.lemmas.Option.{none-some, same_Some}
-use Rattle.diagram_blocks.specs.declared.Kind.{Kind}
-use Rattle.diagram_blocks.specs.declared.Kind.TheVariants.{Inport, Outport}
 use Rattle.diagram_blocks.specs.Kinds.{is_subsystem, is_inport, is_outport, port_of, is_delay}
 use Rattle.diagram_blocks.specs.Meaning.{has_value, delay_length}
 use Rattle.diagram_blocks.specs.Value.{feeds_through}
@@ -14,7 +12,7 @@ use Rattle.diagram_meaning.specs.Diagram.{op_at}
 use Rattle.diagram_meaning.specs.Inputs.{wires_of_rows}
 use Rattle.diagram_meaning.specs.Needs.{inputs_used, needs_of}
 use Rattle.diagram_meaning.specs.SystemRuns.{IsRowOf}
-use Rattle.diagram_meaning.specs.WellFormed.{IsWireIn, IsOwner, HasPorts, reading_system}
+use Rattle.diagram_meaning.specs.WellFormed.{IsWireIn, IsOwner, HasPorts}
 use Rattle.diagram_meaning.proofs.lemmas.Inside.{Contains-nil}
 use Rattle.diagram_meaning.proofs.lemmas.Ports.{IsPorted, at-own-port}
 use Rattle.diagram_meaning.proofs.lemmas.Tick.{row_at-past}
@@ -33,23 +31,16 @@ use Rattle.lustre_right.specs.Reads.{KnownInputs}
 use Rattle.lustre_right.specs.ReadLaws.{IsReadRow}
 use Rattle.lustre_right.specs.Systems.{named_value}
 use Rattle.diagram_meaning.proofs.lemmas.Agreement.{All-append_right}
-use Rattle.lustre_ticks.proofs.Lists.{all-member, all-members, all-mapped}
+use Rattle.lustre_rows.proofs.lemmas.Lists.{all-member, all-members, all-mapped}
+use Rattle.lustre_rows.proofs.lemmas.Systems.{system-below}
+use Rattle.lustre_rows.proofs.lemmas.Wires.{own-reading, outport-valued}
 use Rattle.lustre_ticks.proofs.Setting.{Setting, d, rows, hyper, tick_of, solved, place, IsKnown, names, known-value}
 use Rattle.lustre_ticks.proofs.Agreement.{Done, in-order}
-use Rattle.lustre_ticks.proofs.NodeNames.{system-below}
 use Rattle.lustre_ticks.proofs.Held.{values-hold, values-give, memories-hold, memories-give, computed}
 use Rattle.lustre_ticks.proofs.Inputs.{called-child}
 use Rattle.lustre_ticks.proofs.Around.{KnowsActivity}
 use Rattle.lustre_ticks.proofs.Wires.{KnownRow, known-wire, owner-system, owner-below, activity-known}
 use Rattle.lustre_ticks.proofs.Inports.{inport-known, is-inport-of}
-
-reads-here : (table : List Row) (k : Kind) (o : Option ℕ) → is_inport k ≡ false → reading_system table k o ≡ o
-reads-here table (Inport port) o is = absurd (cc)
-reads-here table _ o is = refl
-
-outport-valued : (k : Kind) → is_outport k ≡ true → has_value k ≡ true
-outport-valued (Outport port reset initial) is = refl
-outport-valued _ is = absurd (cc)
 
 -- ---- The equations of a row
 
@@ -59,6 +50,15 @@ module _ (g : Setting) (s : Option ℕ) (system : IsSystem (rows g) s) (b : ℕ)
       in-order g s (IsKnown g s) (λ text known. known) (sample_equations (d g) s b (samples (d g) s b))
       (memories-hold g s system b row delay).1
       (memories-give g s system b row delay).1 (g.laws.sample_order g.r s b (IsKnown g s))
+
+  pub reading : KnowsActivity g s → IsReadRow g.r s b (IsKnown g s)
+  reading activity = record {
+    resolved = g.tick.resolved;
+    system = system;
+    row = row;
+    around = activity.around;
+    active = activity.active;
+  }
 
   oldest : (n : ℕ) → 0 < n → AllByRecursion (Done g s) (sample_equations (d g) s b (map (sample_name b) (range_with_len 0 n))) →
       IsKnown g s (sample_name b 0)
@@ -76,10 +76,10 @@ module _ (g : Setting) (s : Option ℕ) (system : IsSystem (rows g) s) (b : ℕ)
       where
         wired : is_inport (row_at (rows g) b).kind ≡ false → (c : ℕ) → Contains (row_at (rows g) b).inputs c → IsWireIn (rows g) s c
         wired is c m =
-            all-member (IsWireIn (rows g) s) (row_at (rows g) b).inputs c
+            all-member (IsWireIn (rows g) s) (row_at (rows g) b).inputs
             (subst (λ (o : Option ℕ). AllByRecursion (IsWireIn (rows g) o) (row_at (rows g) b).inputs)
-            (reads-here (rows g) (row_at (rows g) b).kind (row_at (rows g) b).owner is ∙ row.own)
-            (g.tick.resolved.tree.table.wired.wires b row.in_table)) m
+            (own-reading (rows g) (row_at (rows g) b).kind (row_at (rows g) b).owner is ∙ row.own)
+            (g.tick.resolved.tree.table.wired.wires b row.in_table)) c m
 
         by : (i : Bool) → is_inport (row_at (rows g) b).kind ≡ i → AllByRecursion IsKnownLeaf (leaves_of (rows g) s b)
         by true is =
@@ -94,15 +94,6 @@ module _ (g : Setting) (s : Option ℕ) (system : IsSystem (rows g) s) (b : ℕ)
             (all-members (λ c. IsKnownLeaf (Own c)) (row_at (rows g) b).inputs
             (λ c m. known-wire g s c (used feeds c m) (wired is c m))))
 
-    pub reading : IsReadRow g.r s b (IsKnown g s)
-    reading = record {
-      resolved = g.tick.resolved;
-      system = system;
-      row = row;
-      around = activity.around;
-      active = activity.active;
-    }
-
     reads : KnownInputs (IsKnown g s) (d g) s b
     reads = record {
       leaves = leaves-known;
@@ -112,7 +103,7 @@ module _ (g : Setting) (s : Option ℕ) (system : IsSystem (rows g) s) (b : ℕ)
     pub values-done : AllByRecursion (Done g s) (value_equations (d g) s b)
     values-done =
         in-order g s (IsKnown g s) (λ text known. known) (value_equations (d g) s b) (values-hold g s system b row valued)
-        (values-give g s system b row valued) (g.laws.value_order g.r s b (IsKnown g s) reading valued reads)
+        (values-give g s system b row valued) (g.laws.value_order g.r s b (IsKnown g s) (reading activity) valued reads)
 
     pub own-value : IsKnown g s (value_name b)
     own-value =

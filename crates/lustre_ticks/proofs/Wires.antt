@@ -14,10 +14,11 @@ use Rattle.diagram_meaning.specs.WellFormed.{IsWireIn, IsOwner}
 use Rattle.diagram_meaning.proofs.lemmas.Enclosing.{enclosing-step}
 use Rattle.diagram_typed_runs.specs.TypedRuns.{IsSystem}
 use Rattle.emit_shape.specs.Names.{value_name}
-use Rattle.lustre_ticks.proofs.Lists.{all-member}
+use Rattle.lustre_rows.proofs.lemmas.Lists.{all-member}
+use Rattle.lustre_rows.proofs.lemmas.Systems.{system-below}
+use Rattle.lustre_rows.proofs.lemmas.Wires.{child-reading}
 use Rattle.lustre_ticks.proofs.Setting.{Setting, rows, IsKnown}
-use Rattle.lustre_ticks.proofs.NodeNames.{system-below}
-use Rattle.lustre_ticks.proofs.Around.{reads-own, KnowsActivity, root-activity, child-activity}
+use Rattle.lustre_ticks.proofs.Around.{KnowsActivity, root-activity, child-activity}
 
 -- ---- Rows that are known where they are read
 
@@ -67,6 +68,6 @@ activity-known g (suc n) (Some e) system below each =
     let outer = activity-known g n o outside (owner-below (rows g) n e o below owner)
     (λ c m. every c (Contains-append_right own outer_wires c m)) in
     let wired = subst (λ (s : Option ℕ). AllByRecursion (IsWireIn (rows g) s) own)
-    (reads-own (rows g) (row_at (rows g) e).kind o system) (g.tick.resolved.tree.table.wired.wires e in_table) in
+    (child-reading (rows g) (row_at (rows g) e).kind o system) (g.tick.resolved.tree.table.wired.wires e in_table) in
     child-activity g o outside e row system outer
-    (λ c m. known-wire g o c (every c (Contains-append_left own outer_wires c m)) (all-member (IsWireIn (rows g) o) own c wired m))
+    (λ c m. known-wire g o c (every c (Contains-append_left own outer_wires c m)) (all-member (IsWireIn (rows g) o) own wired c m))

@@ -7,8 +7,6 @@ use Rattle.base_core.specs.declared.Control.{Control}
 use Rattle.base_core.specs.declared.Control.TheVariants.{Plain, Enabled, Triggered, Both}
 use Rattle.base_core.specs.declared.Port.{Port}
 use Rattle.base_core.specs.declared.Port.TheVariants.{Number, Enable, Trigger}
-use Rattle.diagram_blocks.specs.declared.Kind.{Kind}
-use Rattle.diagram_blocks.specs.declared.Kind.TheVariants.{Inport}
 use Rattle.diagram_blocks.specs.Kinds.{is_subsystem, is_inport}
 use Rattle.diagram_meaning.specs.declared.Row.{Row}
 use Rattle.diagram_meaning.specs.Rows.{row_at, control_at, system_control, enable_among, trigger_among, inports_of, outports_of}
@@ -29,23 +27,16 @@ use Rattle.lustre_system.specs.Functions.{int_name}
 use Rattle.lustre_system.specs.Names.{active_name, reset_name}
 use Rattle.lustre_system.specs.RowEquations.{wire_read, child_equations}
 use Rattle.lustre_system.specs.SystemNodes.{system_inputs, system_names, system_node}
+use Rattle.lustre_rows.proofs.lemmas.Lists.{all-member, all-members}
+use Rattle.lustre_rows.proofs.lemmas.Wires.{child-reading, outer-reading}
 use Rattle.lustre_right.specs.Systems.{system_texts, place_in}
 use Rattle.lustre_typed.proofs.Leaves.{wire-is}
-use Rattle.lustre_typed.proofs.Lists.{all-members, all-at-member, first-types, later-types}
+use Rattle.lustre_typed.proofs.Lists.{first-types, later-types}
 use Rattle.lustre_typed.proofs.Names.{types, Holds, Fits, now-holds, active-holds, reset-holds, outport-holds}
 use Rattle.lustre_typed.proofs.Sound.{HaveTypes, AreTyped, IsSound}
 use Rattle.lustre_typed.proofs.Typed.{deeper, number-typed, name-typed}
 
 -- ---- The wires that enter a child are wires of the system around it
-
-own-reading : (rows : List Row) (k : Kind) (o : Option ℕ) → is_subsystem k ≡ true → reading_system rows k o ≡ o
-own-reading rows (Inport port) o is = absurd (cc)
-own-reading rows _ o is = refl
-
-outer-reading : (rows : List Row) (k : Kind) (o : Option ℕ) (e : ℕ) → is_inport k ≡ true → o ≡ Some e →
-    reading_system rows k o ≡ (row_at rows e).owner
-outer-reading rows (Inport port) o e is own = ap (reading_system rows (Inport port)) own
-outer-reading rows _ o e is own = absurd (cc)
 
 enable-at : (c : Control) (ws : List ℕ) (w : ℕ) → enable_among c ws ≡ Some w → Contains ws w
 enable-at Plain ws w is = absurd (cc)
@@ -64,7 +55,7 @@ module _ (rows : List Row) (wired : IsWired rows) (s : Option ℕ) (e : ℕ) (ro
   controls-wired : AllByRecursion (IsWireIn rows s) (row_at rows e).inputs
   controls-wired =
       subst (λ (o : Option ℕ). AllByRecursion (IsWireIn rows o) (row_at rows e).inputs)
-      (own-reading rows (row_at rows e).kind (row_at rows e).owner subsystem ∙ row.own) (wired.wires e row.in_table)
+      (child-reading rows (row_at rows e).kind (row_at rows e).owner subsystem ∙ row.own) (wired.wires e row.in_table)
 
   inport-wired : (i c : ℕ) → Contains (inports_of rows (Some e)) i → slice_get (row_at rows i).inputs 0 ≡ Some c → IsWireIn rows s c
   inport-wired i c here at =
@@ -72,7 +63,7 @@ module _ (rows : List Row) (wired : IsWired rows) (s : Option ℕ) (e : ℕ) (ro
       let system : reading_system rows (row_at rows i).kind (row_at rows i).owner ≡ s =
       outer-reading rows (row_at rows i).kind (row_at rows i).owner e is own ∙ row.own in
       subst (λ (o : Option ℕ). IsWireIn rows o c) system
-      (all-at-member (IsWireIn rows (reading_system rows (row_at rows i).kind (row_at rows i).owner)) (row_at rows i).inputs
+      (all-member (IsWireIn rows (reading_system rows (row_at rows i).kind (row_at rows i).owner)) (row_at rows i).inputs
       (wired.wires i below) c (in-at (row_at rows i).inputs 0 c at))
 
   pub entering-wired : (p : Port) (c : ℕ) → entering_wire rows e p ≡ Some c → IsWireIn rows s c
@@ -84,10 +75,10 @@ module _ (rows : List Row) (wired : IsWired rows) (s : Option ℕ) (e : ℕ) (ro
       by None at found = absurd (cc)
       by (Some i) at found = inport-wired i c (in-at (inports_of rows (Some e)) k i at) found
   entering-wired Enable c is =
-      all-at-member (IsWireIn rows s) (row_at rows e).inputs controls-wired c
+      all-member (IsWireIn rows s) (row_at rows e).inputs controls-wired c
       (enable-at (control_at rows e) (row_at rows e).inputs c is)
   entering-wired Trigger c is =
-      all-at-member (IsWireIn rows s) (row_at rows e).inputs controls-wired c
+      all-member (IsWireIn rows s) (row_at rows e).inputs controls-wired c
       (trigger-at (control_at rows e) (row_at rows e).inputs c is)
 
 -- ---- The types of a node

@@ -1,14 +1,10 @@
 -- What the rows of a system read has the type `int`.
 use Rattle.std.proofs.Common.{◌≡◌, refl, sym, ap, ◌∙◌, subst, ℕ, ◌-◌, ◌<◌, Bool, true, false, ◌&&◌, if◌then◌else◌, List, [], ◌∷◌, length, map, replicate, slice_index_or, Option, arith}
 use Rattle.std.specs.List.{AllByRecursion}
-use Rattle.base_fixed_point.specs.declared.FixType.{FixType}
 use Rattle.diagram_blocks.specs.declared.Kind.{Kind}
-use Rattle.diagram_blocks.specs.declared.Kind.TheVariants.{Inport, UnitDelay, Delay, RateTransition}
 use Rattle.diagram_blocks.specs.Kinds.{is_inport, is_delay, port_of}
-use Rattle.diagram_blocks.specs.Meaning.{op_of}
-use Rattle.diagram_meaning.specs.declared.Row.{Row}
 use Rattle.diagram_meaning.specs.Rows.{row_at, same_system}
-use Rattle.diagram_meaning.specs.WellFormed.{IsWireIn, wires_wanted, reading_system}
+use Rattle.diagram_meaning.specs.WellFormed.{IsWireIn}
 use Rattle.diagram_meaning.specs.Diagram.{Diagram, op_at, type_at}
 use Rattle.diagram_meaning.specs.ResolvedTree.{ResolvedTree, IsResolvedTree, diagram_of}
 use Rattle.diagram_meaning.specs.SystemRuns.{IsRowOf}
@@ -27,25 +23,12 @@ use Rattle.lustre_syntax.specs.Tree.{int}
 use Rattle.lustre_syntax.specs.Lawful.{AreDistinct}
 use Rattle.lustre_system.specs.Names.{leaf_name, leaves_of, port_count}
 use Rattle.lustre_system.specs.RowEquations.{delayed_name}
-use Rattle.lustre_rows.proofs.lemmas.Lists.{all-map}
+use Rattle.lustre_rows.proofs.lemmas.Lists.{all-map, all-mapped}
+use Rattle.lustre_rows.proofs.lemmas.Wires.{own-reading, delay-wires}
 use Rattle.lustre_right.specs.Systems.{system_texts}
-use Rattle.lustre_typed.proofs.Lists.{all-mapped, at-same}
+use Rattle.lustre_typed.proofs.Lists.{at-same}
 use Rattle.lustre_typed.proofs.Names.{Holds, wire-holds, param-holds}
 use Rattle.lustre_typed.proofs.Tests.{many-ports}
-
--- ---- Kinds
-
-reads-own : (rows : List Row) (k : Kind) (o : Option ℕ) → is_inport k ≡ false → reading_system rows k o ≡ o
-reads-own rows (Inport port) o is = absurd (cc)
-reads-own rows _ o is = refl
-
--- a delay reads one wire of its own system
-delay-wires : (k : Kind) (o : Option ℕ) (ts : List FixType) (out : FixType) (delays : Bool) → is_delay (op_of k ts out delays) ≡ true →
-    (is_inport k ≡ false) × (wires_wanted k o ≡ 1)
-delay-wires (UnitDelay initial) o ts out delays is = (refl, refl)
-delay-wires (Delay samples initial) o ts out delays is = (refl, refl)
-delay-wires (RateTransition initial time) o ts out delays is = (refl, refl)
-delay-wires _ o ts out delays is = absurd (cc)
 
 -- ---- Rows
 
@@ -87,7 +70,7 @@ module _ (r : ResolvedTree) (resolved : IsResolvedTree r) (s : Option ℕ) (dist
     own-wires : is_inport kind ≡ false → AllByRecursion (IsWireIn d.rows s) wires
     own-wires is =
         subst (λ (o : Option ℕ). AllByRecursion (IsWireIn d.rows o) wires)
-        (reads-own d.rows kind (row_at d.rows b).owner is ∙ row.own) (resolved.tree.table.wired.wires b row.in_table)
+        (own-reading d.rows kind (row_at d.rows b).owner is ∙ row.own) (resolved.tree.table.wired.wires b row.in_table)
 
     input-leaf : is_inport kind ≡ true → IsLeaf (Param (port_of kind - 1))
     input-leaf is =

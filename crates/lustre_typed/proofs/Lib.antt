@@ -1,16 +1,13 @@
-pub mod Places
 pub mod Typed
 pub mod Sound
 pub mod Arity
 pub mod FromC
-pub mod RowFacts
 pub mod Lists
 pub mod Names
 pub mod Tests
 pub mod Activity
 pub mod Leaves
 pub mod LawsOfRows
-pub mod RowCodes
 pub mod RowParts
 pub mod RowValues
 pub mod Samples

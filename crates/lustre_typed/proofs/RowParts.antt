@@ -14,7 +14,7 @@ use Rattle.lustre_system.specs.RowEquations.{test_in, runs, signed_number}
 use Rattle.lustre_right.specs.Systems.{system_texts, place_in}
 use Rattle.lustre_typed.proofs.LawsOfRows.{Laws}
 use Rattle.lustre_typed.proofs.Names.{types, Fits, active-holds}
-use Rattle.lustre_typed.proofs.RowFacts.{start-small, period-short}
+use Rattle.lustre_rows.proofs.lemmas.RowFacts.{start-small, period-short}
 use Rattle.lustre_typed.proofs.Tests.{hit-on, also-typed}
 use Rattle.lustre_typed.proofs.Typed.{deeper, number-typed, name-typed, negative-typed}
 

@@ -29,16 +29,15 @@ use Rattle.lustre_system.specs.FromC.{call_count, value_of, calls_of}
 use Rattle.lustre_system.specs.Functions.{function_name}
 use Rattle.lustre_system.specs.Names.{around_active, part_name, leaf_name, leaves_of, control_leaves}
 use Rattle.lustre_system.specs.RowEquations.{test_in, row_code, runs, kept, value_or_kept, or_reset, row_value, value_equations}
-use Rattle.lustre_rows.proofs.lemmas.Lists.{all-after, all-map}
+use Rattle.lustre_rows.proofs.lemmas.Lists.{all-after, all-map, all-member}
 use Rattle.lustre_right.specs.Systems.{system_texts, place_in}
 use Rattle.lustre_right.specs.NodeLaws.{IsFunctionNode}
 use Rattle.lustre_typed.proofs.FromC.{value-typed, calls-sound}
 use Rattle.lustre_typed.proofs.LawsOfRows.{Laws}
 use Rattle.lustre_typed.proofs.Leaves.{reach_of, IsLeaf, all-leaves}
-use Rattle.lustre_typed.proofs.Lists.{all-at-member}
 use Rattle.lustre_typed.proofs.Names.{types, Holds, Fits, oldest-holds, part-holds, value-holds}
-use Rattle.lustre_typed.proofs.RowCodes.{only-memory, no-memory}
-use Rattle.lustre_typed.proofs.RowFacts.{remembers, row-op}
+use Rattle.lustre_rows.proofs.lemmas.MemoryCodes.{only-memory, no-memory}
+use Rattle.lustre_rows.proofs.lemmas.RowFacts.{remembers, row-op}
 use Rattle.lustre_typed.proofs.RowParts.{start, start-typed, runs-typed}
 use Rattle.lustre_typed.proofs.Sound.{IsSound}
 use Rattle.lustre_typed.proofs.Tests.{On, disabled-on, on-typed}
@@ -75,7 +74,7 @@ module _ (laws : Laws) (r : ResolvedTree) (resolved : IsResolvedTree r) (s : Opt
 
     among-holds : (l : Leaf) → Among l → Holds d s (leaf_name d.rows s l) int
     among-holds l here = elim (Contains-append_cases leaves [] l here) [
-      | inl first ↦ (all-at-member (IsLeaf r resolved s distinct) leaves (all-leaves r resolved s distinct b row) l first).0
+      | inl first ↦ (all-member (IsLeaf r resolved s distinct) leaves (all-leaves r resolved s distinct b row) l first).0
       | inr none ↦ absurd (in-none l none)
     ]
 

@@ -10,10 +10,10 @@ use Rattle.lustre_syntax.specs.Named.{NamedExpr, NamedEquation}
 use Rattle.lustre_syntax.specs.Lawful.{AreDistinct}
 use Rattle.lustre_system.specs.Names.{reset_name, takes_name}
 use Rattle.lustre_system.specs.RowEquations.{runs, samples, delayed_name, sample_value, sample_equations, memory_equations}
+use Rattle.lustre_rows.proofs.lemmas.Lists.{all-members}
 use Rattle.lustre_right.specs.Systems.{system_texts, place_in}
 use Rattle.lustre_typed.proofs.LawsOfRows.{Laws}
 use Rattle.lustre_typed.proofs.Leaves.{delayed-holds}
-use Rattle.lustre_typed.proofs.Lists.{all-members}
 use Rattle.lustre_typed.proofs.Names.{types, Holds, Fits, reset-holds, takes-holds, sample-holds}
 use Rattle.lustre_typed.proofs.RowParts.{start, start-typed, runs-typed}
 use Rattle.lustre_typed.proofs.Sound.{IsSound}

@@ -15,13 +15,12 @@ use Rattle.lustre_syntax.specs.Lawful.{AreDistinct, Agrees, IsWritable}
 use Rattle.lustre_system.specs.Names.{active_name, reset_name}
 use Rattle.lustre_system.specs.RowEquations.{only_if, memory_equations, value_equations, child_equations, row_equations}
 use Rattle.lustre_system.specs.SystemNodes.{active_value, reset_value, trigger_memory, has_trigger, system_equations, system_node}
-use Rattle.lustre_rows.proofs.lemmas.Lists.{all-after, all-map, all-joined, all-only, own-rows}
+use Rattle.lustre_rows.proofs.lemmas.Lists.{all-after, all-map, all-joined, all-only, own-rows, all-mapped}
 use Rattle.lustre_right.specs.Systems.{system_texts, place_in}
 use Rattle.lustre_right.specs.NodeLaws.{CalleesAreThere, SystemsAreTyped}
 use Rattle.lustre_typed.proofs.Activity.{active-typed, reset-typed, trigger-typed}
 use Rattle.lustre_typed.proofs.Children.{child-sound}
 use Rattle.lustre_typed.proofs.LawsOfRows.{Laws}
-use Rattle.lustre_typed.proofs.Lists.{all-mapped}
 use Rattle.lustre_typed.proofs.Names.{types, active-holds, reset-holds, trigger-holds}
 use Rattle.lustre_typed.proofs.RowValues.{value-sound}
 use Rattle.lustre_typed.proofs.Samples.{memory-sound}

@@ -16,7 +16,7 @@ use Rattle.tool_runner.proofs.lemmas.Waiting.{nothing, both_texts, front_of_more
 use Rattle.tool_flow_runner.specs.declared.outcome.FlowFault.{FlowFault}
 use Rattle.tool_flow_runner.specs.declared.outcome.FlowFault.TheVariants.{Read, Put, Bad, Stuck as StuckFault, Memory}
 use Rattle.tool_flow_runner.specs.FlowTraces.{row_size, flow_trace, flow_lines}
-use Rattle.tool_flow_runner.specs.Pieces.{rows_after, whole_rows_after, WritesRows}
+use Rattle.tool_plain_rows.specs.Pieces.{rows_after, whole_rows_after, WritesRows}
 use Rattle.tool_flow_runner.specs.Ticks.{Standing, TicksOn, StopsOn}
 use Rattle.tool_flow_runner.specs.Walks.{IsAfter, HasFlowed, FlowsToEnd, FlowsToLine, FlowsTo}
 use Rattle.tool_flow_runner.proofs.FlowLaws.{free_after, next_after, next_lines, stuck_next, stuck_lines}

@@ -16,7 +16,7 @@ use Rattle.tool_flow_runner.specs.declared.outcome.FlowFault.{FlowFault}
 use Rattle.tool_flow_runner.specs.declared.outcome.FlowFault.TheVariants.{Read, Put, Bad, Stuck as StuckFault, Memory}
 use Rattle.tool_flow_runner.specs.declared.walk.Walk.{Walk}
 use Rattle.tool_flow_runner.specs.FlowTraces.{row_size, flow_trace, flow_lines}
-use Rattle.tool_flow_runner.specs.Pieces.{rows_after, BeginsBadly, IsNextRow, IsLastRow}
+use Rattle.tool_plain_rows.specs.Pieces.{rows_after, BeginsBadly, IsNextRow, IsLastRow}
 use Rattle.tool_flow_runner.specs.Ticks.{Standing, TicksOn, StopsOn}
 use Rattle.tool_flow_runner.specs.Walks.{inside, IsFilled, HasFlowed, FlowsThrough, FlowsToEnd, FlowsToPut, FlowsTo, StopsIn, EndsLines, EndsLast}
 use Rattle.tool_flow_runner.proofs.Steps.{same_size, flows_on, trace_is, flowed_to_end, flowed_to_line, flowed_to_last, flowed_to_tick}

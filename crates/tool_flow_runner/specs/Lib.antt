@@ -1,5 +1,4 @@
 pub mod FlowTraces
-pub mod Pieces
 pub mod Runs
 pub mod Ticks
 pub mod Walks

@@ -16,7 +16,7 @@ use Rattle.tool_flow_runner.specs.declared.outcome.FlowFault.{FlowFault}
 use Rattle.tool_flow_runner.specs.declared.outcome.FlowFault.TheVariants as fault
 use Rattle.tool_flow_runner.specs.declared.walk.Walk.{Walk}
 use Rattle.tool_flow_runner.specs.FlowTraces.{row_size, flow_trace, flow_lines}
-use Rattle.tool_flow_runner.specs.Pieces.{WritesRows}
+use Rattle.tool_plain_rows.specs.Pieces.{WritesRows}
 use Rattle.tool_flow_runner.specs.Ticks.{Standing}
 
 -- where a walk is, with the lines that wait in it

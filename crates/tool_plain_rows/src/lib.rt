@@ -2,5 +2,7 @@
 #![tactic(auto)]
 
 mod rows;
+mod walk;
 
 pub use rows::read_plain_row;
+pub use walk::{last_plain_row, next_plain_row};

@@ -18,6 +18,7 @@ use Rattle.lustre_syntax.specs.Lawful.{IsLawful, AreNodes, EndsWithInts}
 use Rattle.lustre_system.specs.File.{root_node, named_file, lustre_file}
 use Rattle.lustre_system.specs.Functions.{function_nodes}
 use Rattle.lustre_system.specs.SystemNodes.{system_node}
+use Rattle.lustre_rows.proofs.lemmas.Lists.{in-reverse}
 use Rattle.lustre_right.specs.LongDelays.{long_delay}
 use Rattle.lustre_right.specs.NodeLaws.{SystemsAreTyped}
 use Rattle.lustre_right.specs.SystemLaws.{ModelFilesAreLawful}
@@ -25,7 +26,7 @@ use Rattle.lustre_lawful.proofs.Counts.{new-name}
 use Rattle.lustre_lawful.proofs.IntTypes.{ends-with}
 use Rattle.lustre_lawful.proofs.NodePlaces.{names_of, found-node, nodes-append, placed-texts}
 use Rattle.lustre_lawful.proofs.RootNode.{root-lawful, root-inputs, root-outputs}
-use Rattle.lustre_lawful.proofs.SystemOrder.{in-reverse, systems-sorted}
+use Rattle.lustre_lawful.proofs.SystemOrder.{systems-sorted}
 use Rattle.lustre_lawful.proofs.SystemsInFile.{nodes_before, before-once, root-new, systems-lawful}
 
 module _ (typed : SystemsAreTyped) (r : ResolvedTree) (is : IsResolvedTree r)

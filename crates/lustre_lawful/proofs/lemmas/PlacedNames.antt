@@ -6,5 +6,5 @@ pub use Rattle.lustre_lawful.proofs.RowTexts.{row_given, given-are}
 pub use Rattle.lustre_lawful.proofs.SystemTexts.{system_given, system-given}
 pub use Rattle.lustre_lawful.proofs.SystemNames.{few-numbers, system_names_are_distinct, systems_give_their_names}
 pub use Rattle.lustre_lawful.proofs.NodePlaces.{names_of, found-node, placed-texts, function-there}
-pub use Rattle.lustre_lawful.proofs.SystemOrder.{in-reverse, systems-sorted}
+pub use Rattle.lustre_lawful.proofs.SystemOrder.{systems-sorted}
 pub use Rattle.lustre_lawful.proofs.IntTypes.{inputs-typed, outputs-typed}

@@ -2,6 +2,7 @@
 use Rattle.std.proofs.Common.{sym, subst, List}
 use Rattle.diagram_meaning.specs.ResolvedTree.{diagram_of}
 use Rattle.modules_profile.specs.Systems.{systems}
+use Rattle.modules_profile.proofs.lemmas.PortRows.{of-rows}
 use Rattle.lustre_syntax.specs.Named.{NamedNode, placed_file}
 use Rattle.lustre_syntax.specs.Tree.{NodeTree}
 use Rattle.emit_shape.specs.Names.{value_name}
@@ -10,9 +11,9 @@ use Rattle.lustre_system.specs.FunctionRules.{AreFunctions}
 use Rattle.lustre_right.specs.Right.{HasSystem}
 use Rattle.lustre_right.specs.RightLaws.{FilesAreRight}
 use Rattle.std.specs.Prelude.{Contains}
-use Rattle.lustre_lives.proofs.Lists.{all-members}
+use Rattle.lustre_rows.proofs.lemmas.Lists.{all-members}
+use Rattle.lustre_rows.proofs.lemmas.SystemMembers.{of-value}
 use Rattle.lustre_lives.proofs.Nodes.{nodes-are, later_nodes, file-texts, ports-are, system-there}
-use Rattle.lustre_lives.proofs.Names.{value-named}
 use Rattle.lustre_lives.proofs.Calls.{calls-are}
 use Rattle.lustre_lives.proofs.Ticks.{file_of}
 use Rattle.lustre_lives.proofs.Flows.{gives-flows}
@@ -31,7 +32,9 @@ files_are_right laws r resolved no_loop no_long =
             (laws.functions (later_nodes d r.times.hyper));
         systems_there = all-members (HasSystem (file_of r) d) (systems d.rows) (λ s there. record {
           values = λ b own valued. subst (λ (n : NodeTree). Contains n.names (int_name (value_name b)))
-              (sym (system-there d r.times.hyper lawful s there)) (value-named d s (resolved.tree.table.outports s) b own valued);
+              (sym (system-there d r.times.hyper lawful s there))
+              (let (below, owned) = of-rows d.rows s b own in
+              of-value d s b (record { in_table = below; own = owned }) (resolved.tree.table.outports s) valued);
           calls = calls-are d r.times.hyper lawful s there;
         });
       };

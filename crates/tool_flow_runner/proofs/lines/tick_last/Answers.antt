@@ -1,5 +1,5 @@
 use Rattle.std.proofs.Common.{sym, subst, ◌∙◌}
-use Rattle.tool_flow_runner.specs.Pieces.{IsLastRow}
+use Rattle.tool_plain_rows.specs.Pieces.{IsLastRow}
 use Rattle.tool_flow_runner.specs.Walks.{inside, EndsLast}
 use Rattle.tool_flow_runner.proofs.Walks.{ticks_last, same_place}
 use Rattle.tool_flow_runner.proofs.lines.tick_last.Goals as goal

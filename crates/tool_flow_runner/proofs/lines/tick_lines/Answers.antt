@@ -1,7 +1,7 @@
 use Rattle.std.proofs.Common.{refl, ap, sym, subst, ◌∙◌, length, take, drop, arith}
 use Rattle.std.specs.Prelude.{Err}
 use Rattle.std.proofs.lemmas.Result.{err_from_is_err_and}
-use Rattle.tool_flow_runner.specs.Pieces.{IsNextRow, BeginsBadly}
+use Rattle.tool_plain_rows.specs.Pieces.{IsNextRow, BeginsBadly}
 use Rattle.tool_flow_runner.specs.Walks.{inside, FlowsThrough}
 use Rattle.tool_flow_runner.proofs.Walks.{none_through, further, bad_in, tick_in, handed, same_place}
 use Rattle.tool_flow_runner.proofs.lines.tick_lines.Goals as goal

@@ -1,6 +1,6 @@
 use Rattle.std.proofs.Common.{◌≢◌, length, arith, rules}
-use Rattle.tool_flow_runner.proofs.RowWalk.{too_many_last, row_last, bad_last}
-use Rattle.tool_flow_runner.proofs.rows.last_row.Goals as goal
+use Rattle.tool_plain_rows.proofs.RowWalk.{too_many_last, row_last, bad_last}
+use Rattle.tool_plain_rows.proofs.walk.last_plain_row.Goals as goal
 
 pub returns-then-lines-eq-MOST_LINES-clause-last : goal.returns-then-lines-eq-MOST_LINES-clause-last
 returns-then-lines-eq-MOST_LINES-clause-last c =

@@ -13,7 +13,7 @@ use Rattle.tool_traces.specs.Rows.{with_row, most_lines}
 use Rattle.tool_traces.specs.Pieces.{with_rows}
 use Rattle.tool_traces.proofs.lemmas.LineWalk.{shows, some_line, last_is}
 use Rattle.tool_plain_rows.specs.PlainRows.{plain_rows_after, plain_row_of, plain_values_from}
-use Rattle.tool_flow_runner.specs.Pieces.{rows_after, BeginsBadly, IsNextRow, IsLastRow}
+use Rattle.tool_plain_rows.specs.Pieces.{rows_after, BeginsBadly, IsNextRow, IsLastRow}
 
 -- ---- One line
 

@@ -1,8 +1,8 @@
 use Rattle.std.proofs.Common.{length, arith}
 use Rattle.tool_traces.proofs.lemmas.LineWalk.{nothing_whole}
 use Rattle.tool_traces.proofs.lemmas.RowWalk.{line_places}
-use Rattle.tool_flow_runner.proofs.RowWalk.{too_many, long_next, row_next, bad_next}
-use Rattle.tool_flow_runner.proofs.rows.next_row.Goals as goal
+use Rattle.tool_plain_rows.proofs.RowWalk.{too_many, long_next, row_next, bad_next}
+use Rattle.tool_plain_rows.proofs.walk.next_plain_row.Goals as goal
 
 pub slice_bounds-read_plain_row-end : goal.slice_bounds-read_plain_row-end
 slice_bounds-read_plain_row-end c = (line_places c.args.text.now c.args.from _ _ _ c.in-Line.ensures).1
