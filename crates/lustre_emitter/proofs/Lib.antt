@@ -1,4 +1,6 @@
+mod Files
+mod Lists
+mod NodeParts
+mod Roots
 mod Searches
-mod Walks
-mod NameLaws
-mod FirstPlaces
+mod SystemLists

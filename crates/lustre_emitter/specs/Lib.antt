@@ -1,5 +1,3 @@
-pub mod Placed
-pub mod Found
-pub mod RowNaming
-pub mod Namings
-pub mod PortKinds
+pub mod Listed
+pub mod RootParts
+pub mod Faults

@@ -1,18 +1,17 @@
-//! Parts of the code that makes the file of Lustre of a model: long delays, expressions of C as Lustre, and the places of names.
+//! The file of Lustre of a model.
 #![tactic(auto)]
 
+mod emission;
+mod fault;
+mod functions;
 mod long_delays;
-mod lookup;
-mod names;
-mod naming;
-mod places;
-mod ports;
-mod scope_places;
-mod scopes;
-mod translation;
+mod root;
+mod root_equations;
+mod root_names;
+mod system_nodes;
+mod systems;
+mod texts;
 
+pub use emission::lustre_of;
+pub use fault::LusOfFault;
 pub use long_delays::long_delay;
-pub use naming::Naming;
-pub use places::Places;
-pub use scopes::{Callees, ParamNames, RowNames};
-pub use translation::{Calls, test_from, value_from};

@@ -5,11 +5,12 @@ use Rattle.lustre_syntax.specs.Tree.{FileTree}
 use Rattle.lustre_syntax.specs.Lawful.{IsLawful}
 use Rattle.lustre_rules.specs.Reading.{LustreText, LustreFaultOf}
 
--- the bytes are a text of one file and of no other
+-- the bytes are a text of one file and of no other, and have no error
 pub record HasOneReading (bytes : List ℕ) : Type 0 where
   pub file : FileTree
   pub read : LustreText bytes file
   pub one : (other : FileTree) → LustreText bytes other → other ≡ file
+  pub faultless : (fault : CFault) → LustreFaultOf bytes fault → ⊥
 
 -- the bytes are no text of a file, and have one first error
 pub record HasOneFault (bytes : List ℕ) : Type 0 where

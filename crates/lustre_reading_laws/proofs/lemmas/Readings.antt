@@ -137,7 +137,12 @@ module _ (bytes : List ℕ) where
           HasOneReading bytes ⊎ HasOneFault bytes
       resolved w e (Ok f) k =
           let text : LustreText bytes f = text-read w f e k in
-          inl (record { file = f; read = text; one = λ other h. one-file other f h text })
+          inl (record {
+            file = f;
+            read = text;
+            one = λ other h. one-file other f h text;
+            faultless = λ fault h. apart f fault text h;
+          })
       resolved w e (Err fault) k = inr (refused fault (rule-broken w fault e k))
 
       by : (r : Result WrittenFile CFault) → parse_text bytes ≡ r → HasOneReading bytes ⊎ HasOneFault bytes

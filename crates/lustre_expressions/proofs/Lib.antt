@@ -1,0 +1,4 @@
+pub mod lemmas
+mod Walks
+mod NameLaws
+mod FirstPlaces

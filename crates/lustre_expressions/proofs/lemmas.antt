@@ -1,0 +1,2 @@
+-- Lemmas that proofs of the crates above use.
+pub mod ScopeLaws

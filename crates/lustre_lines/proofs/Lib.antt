@@ -1,0 +1,5 @@
+mod Nodes
+mod Passes
+mod Looks
+mod Flows
+mod RightFiles

@@ -1,0 +1,4 @@
+mod RowOps
+mod Renaming
+mod SystemNames
+mod Samples

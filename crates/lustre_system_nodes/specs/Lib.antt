@@ -1,0 +1,5 @@
+pub mod OwnRows
+pub mod Parts
+pub mod Reads
+pub mod States
+pub mod Named
