@@ -1,9 +1,10 @@
 // Whole files, and whole texts.
-ghost use Rattle.std.specs.Prelude.{◌≡◌, ◌≢◌, ℕ, ◌<◌, ◌≤◌, length, [], Some, false, Err, IfOk, OnOk, OnErr, IsErrOf, vec_len};
-ghost use Rattle.std.specs.Io.KnownBytes.{append_known, IsAtEnd};
-ghost use Rattle.base_host.specs.Faults.{Rose, HasCause};
-ghost use Rattle.base_host.specs.Files.{OnFile, add_file, PutsFront, WritesFront};
-ghost use Rattle.base_host.specs.Reading.{RoseBy, source, ReadsFront, StopsReading};
+ghost use Rattle.std.specs.Prelude.{◌≡◌, false, OnOk, OnErr, IsErrOf};
+ghost use Rattle.std.specs.Io.KnownBytes.{append_known};
+ghost use Rattle.base_host.specs.Faults.{HasCause, HasCauseOf};
+ghost use Rattle.base_host.specs.Files.{add_file, PutsFront, WritesFront};
+ghost use Rattle.base_host.specs.Reading.{source, OnlyReads};
+ghost use Rattle.base_host.specs.WholeFiles.{ReadsFile};
 
 use crate::{Failed, Host, Sink};
 use std::alloc::Global;
@@ -32,30 +33,13 @@ pub fn read_all<H: Host>(
     name: &str,
     max: usize,
 ) -> Result<Vec<u8>, ReadAllFault>
-    ensures whole { IfOk result (λ v. OnFile (H.files host.old) (H.rest host.old) name.now
-        (λ bytes. v.items ≡ bytes)) }
-    ensures end { OnOk result (IsAtEnd (H.rest host.new)) }
-    ensures told { OnOk result (OnFile (H.files host.old) (H.rest host.old) name.now
-        (λ _. H.rest host.new ≡ Some [])) }
-    ensures given { IfOk result (λ v. RoseBy (vec_len v) (H.given host.old) (H.given host.new)) }
-    ensures fits { IfOk result (λ v. vec_len v ≤ max) }
-    ensures too_long { IsErrOf result ReadAllFault.TooLong →
-        OnFile (H.files host.old) (H.rest host.old) name.now (λ bytes. max < length bytes) }
-    ensures front { result ≢ Err ReadAllFault.Read → ReadsFront (H.files host.old) name.now
-        (source (H.rest host.old) (H.given host.old)) (source (H.rest host.new) (H.given host.new)) }
-    ensures stopped { IsErrOf result ReadAllFault.Read → StopsReading (H.files host.old) name.now
-        (source (H.rest host.old) (H.given host.old)) (source (H.rest host.new) (H.given host.new)) }
-
-    ensures cause { IsErrOf result ReadAllFault.Read →
-        Rose (H.read_faults host.old) (H.read_faults host.new) }
+    ensures reads { ReadsFile result max (H.files host.old) name.now
+        (source (H.rest host.old) (H.given host.old))
+        (source (H.rest host.new) (H.given host.new)) }
+    ensures cause { HasCauseOf ReadAllFault.Read (H.read_faults host.old) (H.read_faults host.new)
+        result }
     ensures unsure { IsErrOf result ReadAllFault.Read → H.sure host.old name.now ≡ false }
-    ensures calm { result ≢ Err ReadAllFault.Read →
-        H.read_faults host.new ≡ H.read_faults host.old }
-    ensures later { H.read_faults host.old ≤ H.read_faults host.new }
-
-    ensures files { H.files host.new ≡ H.files host.old }
-    ensures written { H.written host.new ≡ H.written host.old }
-    ensures write_faults { H.write_faults host.new ≡ H.write_faults host.old }
+    ensures only_reads { OnlyReads H.files H.written H.write_faults host.old host.new }
 {
     if host.open_read(name).is_err() {
         return Err(ReadAllFault::Read);

@@ -14,6 +14,8 @@ use base_host::{Host, Sink};
 use c_reading_laws::readings_agree;
 use std::alloc::Global;
 use tool_endings::Ending;
+use tool_flow_steps::flow_file;
+use tool_lustre_steps::make_lustre;
 use tool_steps::{exec_code, profile_model, run_file, started};
 use tool_words::{Command, command};
 
@@ -87,6 +89,8 @@ fn perform<H: Host, S: Sink>(alloc: Global, command: Command, host: &mut H, out:
             model,
             code,
         } => generate_model(alloc, host, out, start, size, model, code),
+        Command::Lustre { model, file } => make_lustre(alloc, host, model, file),
+        Command::Flow { file, trace } => flow_file(alloc, host, out, file, trace),
     }
 }
 

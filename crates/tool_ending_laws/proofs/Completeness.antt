@@ -7,14 +7,14 @@ use Rattle.base_host.specs.Files.{File, lookup}
 use Rattle.c_semantics.specs.Rows.{start_run}
 use Rattle.diagram_meaning.specs.ResolvedTable.{ResolvedTable}
 use Rattle.tool_system_driver.specs.Words.{system_named}
-use Rattle.tool_words.specs.Words.{Asked, Compile, Run, Exec, Profile, Drive, Gen}
+use Rattle.tool_words.specs.Words.{Asked, Compile, Run, Exec, Profile, Drive, Gen, Lustre, Flow}
 use Rattle.tool_endings.specs.Told.{HostTold, SinkTold}
 use Rattle.tool_endings.specs.Endings.{EndsAt}
-use Rattle.tool_endings.specs.Statuses.{Comes, ComesExactly, OnTold, run_status, status_at, SystemComes, IsDone}
+use Rattle.tool_endings.specs.Statuses.{Comes, ComesExactly, OnTold, run_status, status_at, SystemComes, lustre_status, IsDone}
 use Rattle.tool_endings.specs.Completeness.{CanDrive, CanDo, IsComplete}
 use Rattle.tool_endings.proofs.lemmas.Files.{at_there, told-map}
 use Rattle.tool_ending_laws.specs.Laws.{StatusesAreExact}
-use Rattle.tool_ending_laws.proofs.StatusLaws.{comes-over, over}
+use Rattle.tool_ending_laws.proofs.StatusLaws.{comes-over, over, flow_over}
 use Rattle.tool_ending_laws.proofs.EndingLaws.{no_read, no_write, no_put}
 
 -- ---- What can be done comes to status 0
@@ -43,6 +43,12 @@ can-comes (Profile model) fs can = at_there (lookup model fs) can (λ bytes x. i
 can-comes (Drive model code word script) fs can =
     at_there (lookup model fs) can (λ bytes x. inr (x.0, x.1, can-drive x.0 (system_named x.0.table.rows word) (lookup script fs) x.2))
 can-comes (Gen start size model code) fs can = inr (can.0, can.1, refl)
+can-comes (Lustre model file) fs can = at_there (lookup model fs) can (λ bytes x. inr (x.0, x.1, sym (ap lustre_status x.2)))
+can-comes (Flow file trace) fs can =
+    at_there (lookup file fs) can (λ bytes x. inr (inr (
+      x.file,
+      at_there (lookup trace fs) x.runs (λ lines run. flow_over x.file.tree lines None None run.free run.good),
+    )))
 
 done-by : (s : ℕ) (a : Asked) (fs : List File) → ComesExactly s a fs → s ≢ 5 → s ≢ 6 → s ≢ 7 → CanDo a fs → IsDone s
 done-by s a fs comes reads writes puts can = by (eqb_tells s 10)

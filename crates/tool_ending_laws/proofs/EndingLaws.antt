@@ -1,17 +1,19 @@
 -- What follows from the way in which a call of the tool ended.
-use Rattle.std.proofs.Common.{◌≡◌, ◌≢◌, ℕ, inl, inr, refl, sym, ap, subst, ◌∙◌, arith}
+use Rattle.std.proofs.Common.{◌≡◌, ◌≢◌, ℕ, inl, inr, List, refl, sym, ap, subst, ◌∙◌, arith}
 use Rattle.std.specs.Prelude.{Option, Some, None}
 use Rattle.base_host.specs.Faults.{Rose, IsCalm}
 use Rattle.tool_endings.specs.declared.ending.Ending.{Ending}
-use Rattle.tool_endings.specs.declared.ending.Ending.TheVariants.{Compiled, Ran, Reported, Usage, Refused, BadTrace, BadScript, CodeRefused, CodeTooLong, Stuck as IsStuck, ReadFault, WriteFault, PutFault, NoMemory}
-use Rattle.tool_words.specs.Words.{Asked, Compile, Run, Exec, Profile, Drive, Gen}
+use Rattle.tool_endings.specs.declared.ending.Ending.TheVariants.{Compiled, Ran, Reported, Noded, Flowed, Usage, Refused, BadTrace, BadScript, CodeRefused, CodeTooLong, Stuck as IsStuck, LustreRefused, LustreTooLong, LustreLong, FlowStuck, ReadFault, WriteFault, PutFault, NoMemory}
+use Rattle.tool_words.specs.Words.{Asked, Compile, Run, Exec, Profile, Drive, Gen, Lustre, Flow}
 use Rattle.tool_endings.specs.Told.{HostTold, SinkTold, NoFault}
 use Rattle.tool_endings.specs.declared.ending.ScriptStop.TheVariants.{NoSubsystem, Line, Call}
 use Rattle.tool_endings.specs.EndingsOfRuns.{EndsRunUnread, EndsExecUnread}
 use Rattle.tool_endings.specs.EndingsOfDriving.{EndsDriveUnread}
-use Rattle.tool_endings.specs.Endings.{status_of, text_of, Finds, CountsPuts, Ends, EndsAt, IsFaultless, IsSaidOf, PutsWhole, Puts}
+use Rattle.tool_endings.specs.EndingsOfFlows.{EndsFlowUnread}
+use Rattle.tool_endings.specs.Endings.{status_of, text_of, EndsUnasked, Finds, CountsPuts, Ends, EndsAt, IsFaultless, IsSaidOf, PutsWhole, Puts}
 use Rattle.tool_endings.specs.Statuses.{TellsNoFault, IsPlain}
 use Rattle.tool_endings.specs.Headline.{Calm}
+use Rattle.tool_endings.specs.Calls.{KeepsCounts}
 use Rattle.tool_ending_laws.proofs.FaultStatuses.{only_read, only_write, only_put}
 
 -- ---- The ending whose text was printed
@@ -43,91 +45,107 @@ says_found s a h h' b b' e put fed = by e.found e.said e.before e.ends e.says e.
 
 -- ---- Counts of errors
 
--- except for errors, no count of the host rose
+-- except for errors, no count of the host rose: by command
+unasked-calm : (e : Ending) (h h' : HostTold) → EndsUnasked e h h' → NoFault h h'
+unasked-calm Usage h h' ends = ends.no_fault
+unasked-calm NoMemory h h' ends = ends.no_fault
+unasked-calm _ h h' ends = absurd ends
+
+compile-calm : (e : Ending) (model code : List ℕ) (h h' : HostTold) (b b' : SinkTold) → Finds e (Some (Compile model code)) h h' b b' →
+    IsFaultless e → NoFault h h'
+compile-calm (Compiled rows systems functions) model code h h' b b' ends plain = ends.0.no_fault
+compile-calm (Refused refusal) model code h h' b b' ends plain = ends.0.no_fault
+compile-calm ReadFault model code h h' b b' ends plain = absurd (plain.no_read_fault refl)
+compile-calm WriteFault model code h h' b b' ends plain = absurd (plain.no_write_fault refl)
+compile-calm NoMemory model code h h' b b' ends plain = ends.0.no_fault
+compile-calm _ model code h h' b b' ends plain = absurd ends.0
+
+run-calm : (e : Ending) (model code trace : List ℕ) (h h' : HostTold) (b b' : SinkTold) →
+    Finds e (Some (Run model code trace)) h h' b b' → IsFaultless e → NoFault h h'
+run-calm (Ran totals) model code trace h h' b b' ends plain = ends.no_fault
+run-calm (BadTrace line) model code trace h h' b b' ends plain = ends.no_fault
+run-calm (Refused refusal) model code trace h h' b b' ends plain = ends.0.no_fault
+run-calm ReadFault model code trace h h' b b' ends plain = absurd (plain.no_read_fault refl)
+run-calm WriteFault model code trace h h' b b' ends plain = absurd (plain.no_write_fault refl)
+run-calm PutFault model code trace h h' b b' ends plain = absurd (plain.no_put_fault refl)
+run-calm NoMemory model code trace h h' b b' ends plain = ends.0.no_fault
+run-calm _ model code trace h h' b b' ends plain = absurd ends
+
+exec-calm : (e : Ending) (code trace : List ℕ) (h h' : HostTold) (b b' : SinkTold) → Finds e (Some (Exec code trace)) h h' b b' →
+    IsFaultless e → NoFault h h'
+exec-calm (Ran totals) code trace h h' b b' ends plain = ends.left.no_fault
+exec-calm (BadTrace line) code trace h h' b b' ends plain = ends.left.no_fault
+exec-calm (CodeRefused fault) code trace h h' b b' ends plain = ends.left.no_fault
+exec-calm CodeTooLong code trace h h' b b' ends plain = ends.left.no_fault
+exec-calm (IsStuck at) code trace h h' b b' (inl ends) plain = ends.left.no_fault
+exec-calm (IsStuck at) code trace h h' b b' (inr ends) plain = ends.left.no_fault
+exec-calm ReadFault code trace h h' b b' ends plain = absurd (plain.no_read_fault refl)
+exec-calm PutFault code trace h h' b b' ends plain = absurd (plain.no_put_fault refl)
+exec-calm NoMemory code trace h h' b b' ends plain = ends.0.no_fault
+exec-calm _ code trace h h' b b' ends plain = absurd ends
+
+profile-calm : (e : Ending) (model : List ℕ) (h h' : HostTold) (b b' : SinkTold) → Finds e (Some (Profile model)) h h' b b' →
+    IsFaultless e → NoFault h h'
+profile-calm (Reported text) model h h' b b' ends plain = ends.0.left.no_fault
+profile-calm (Refused refusal) model h h' b b' ends plain = ends.0.no_fault
+profile-calm ReadFault model h h' b b' ends plain = absurd (plain.no_read_fault refl)
+profile-calm NoMemory model h h' b b' ends plain = ends.0.no_fault
+profile-calm _ model h h' b b' ends plain = absurd ends.0
+
+drive-calm : (e : Ending) (model code word script : List ℕ) (h h' : HostTold) (b b' : SinkTold) →
+    Finds e (Some (Drive model code word script)) h h' b b' → IsFaultless e → NoFault h h'
+drive-calm (Ran totals) model code word script h h' b b' ends plain = ends.no_fault
+drive-calm (BadScript NoSubsystem) model code word script h h' b b' ends plain = ends.left.no_fault
+drive-calm (BadScript (Line bad)) model code word script h h' b b' ends plain = ends.no_fault
+drive-calm (BadScript (Call refused)) model code word script h h' b b' ends plain = ends.no_fault
+drive-calm (Refused refusal) model code word script h h' b b' ends plain = ends.0.no_fault
+drive-calm ReadFault model code word script h h' b b' ends plain = absurd (plain.no_read_fault refl)
+drive-calm WriteFault model code word script h h' b b' ends plain = absurd (plain.no_write_fault refl)
+drive-calm PutFault model code word script h h' b b' ends plain = absurd (plain.no_put_fault refl)
+drive-calm NoMemory model code word script h h' b b' ends plain = ends.0.no_fault
+drive-calm _ model code word script h h' b b' ends plain = absurd ends
+
+generate-calm : (e : Ending) (start size : ℕ) (model code : List ℕ) (h h' : HostTold) (b b' : SinkTold) →
+    Finds e (Some (Gen start size model code)) h h' b b' → IsFaultless e → NoFault h h'
+generate-calm (Ran totals) start size model code h h' b b' ends plain = ends.no_fault
+generate-calm (Refused refusal) start size model code h h' b b' ends plain = ends.0.left.no_fault
+generate-calm WriteFault start size model code h h' b b' ends plain = absurd (plain.no_write_fault refl)
+generate-calm PutFault start size model code h h' b b' ends plain = absurd (plain.no_put_fault refl)
+generate-calm NoMemory start size model code h h' b b' ends plain = ends.no_fault
+generate-calm _ start size model code h h' b b' ends plain = absurd ends
+
+lustre-calm : (e : Ending) (model file : List ℕ) (h h' : HostTold) (b b' : SinkTold) → Finds e (Some (Lustre model file)) h h' b b' →
+    IsFaultless e → NoFault h h'
+lustre-calm (Noded nodes) model file h h' b b' ends plain = ends.0.no_fault
+lustre-calm (Refused refusal) model file h h' b b' ends plain = ends.0.no_fault
+lustre-calm (LustreLong place) model file h h' b b' ends plain = ends.0.left.no_fault
+lustre-calm ReadFault model file h h' b b' ends plain = absurd (plain.no_read_fault refl)
+lustre-calm WriteFault model file h h' b b' ends plain = absurd (plain.no_write_fault refl)
+lustre-calm NoMemory model file h h' b b' ends plain = ends.0.no_fault
+lustre-calm _ model file h h' b b' ends plain = absurd ends.0
+
+flow-calm : (e : Ending) (file trace : List ℕ) (h h' : HostTold) (b b' : SinkTold) → Finds e (Some (Flow file trace)) h h' b b' →
+    IsFaultless e → NoFault h h'
+flow-calm (Flowed ticks) file trace h h' b b' ends plain = ends.left.no_fault
+flow-calm (BadTrace line) file trace h h' b b' ends plain = ends.left.no_fault
+flow-calm (FlowStuck at) file trace h h' b b' ends plain = ends.left.no_fault
+flow-calm (LustreRefused fault) file trace h h' b b' ends plain = ends.left.no_fault
+flow-calm LustreTooLong file trace h h' b b' ends plain = ends.left.no_fault
+flow-calm ReadFault file trace h h' b b' ends plain = absurd (plain.no_read_fault refl)
+flow-calm PutFault file trace h h' b b' ends plain = absurd (plain.no_put_fault refl)
+flow-calm NoMemory file trace h h' b b' ends plain = ends.0.no_fault
+flow-calm _ file trace h h' b b' ends plain = absurd ends
+
 host-calm : (e : Ending) (a : Option Asked) (h h' : HostTold) (b b' : SinkTold) → Finds e a h h' b b' → IsFaultless e → NoFault h h'
-host-calm (Compiled rows systems functions) None h h' b b' ends plain = absurd ends.0
-host-calm (Compiled rows systems functions) (Some (Compile model code)) h h' b b' ends plain = ends.0.no_fault
-host-calm (Compiled rows systems functions) (Some (Run model code trace)) h h' b b' ends plain = absurd ends
-host-calm (Compiled rows systems functions) (Some (Exec code trace)) h h' b b' ends plain = absurd ends
-host-calm (Compiled rows systems functions) (Some (Profile model)) h h' b b' ends plain = absurd ends.0
-host-calm (Compiled rows systems functions) (Some (Drive model code word script)) h h' b b' ends plain = absurd ends
-host-calm (Compiled rows systems functions) (Some (Gen start size model code)) h h' b b' ends plain = absurd ends
-host-calm (Ran totals) None h h' b b' ends plain = absurd ends.0
-host-calm (Ran totals) (Some (Compile model code)) h h' b b' ends plain = absurd ends.0
-host-calm (Ran totals) (Some (Run model code trace)) h h' b b' ends plain = ends.no_fault
-host-calm (Ran totals) (Some (Exec code trace)) h h' b b' ends plain = ends.left.no_fault
-host-calm (Ran totals) (Some (Profile model)) h h' b b' ends plain = absurd ends.0
-host-calm (Ran totals) (Some (Drive model code word script)) h h' b b' ends plain = ends.no_fault
-host-calm (Ran totals) (Some (Gen start size model code)) h h' b b' ends plain = ends.no_fault
-host-calm (Reported text) None h h' b b' ends plain = absurd ends.0
-host-calm (Reported text) (Some (Compile model code)) h h' b b' ends plain = absurd ends.0
-host-calm (Reported text) (Some (Run model code trace)) h h' b b' ends plain = absurd ends
-host-calm (Reported text) (Some (Exec code trace)) h h' b b' ends plain = absurd ends
-host-calm (Reported text) (Some (Profile model)) h h' b b' ends plain = ends.0.left.no_fault
-host-calm (Reported text) (Some (Drive model code word script)) h h' b b' ends plain = absurd ends
-host-calm (Reported text) (Some (Gen start size model code)) h h' b b' ends plain = absurd ends
-host-calm Usage None h h' b b' ends plain = ends.0.no_fault
-host-calm Usage (Some (Compile model code)) h h' b b' ends plain = absurd ends.0
-host-calm Usage (Some (Run model code trace)) h h' b b' ends plain = absurd ends
-host-calm Usage (Some (Exec code trace)) h h' b b' ends plain = absurd ends
-host-calm Usage (Some (Profile model)) h h' b b' ends plain = absurd ends.0
-host-calm Usage (Some (Drive model code word script)) h h' b b' ends plain = absurd ends
-host-calm Usage (Some (Gen start size model code)) h h' b b' ends plain = absurd ends
-host-calm (Refused refusal) None h h' b b' ends plain = absurd ends.0
-host-calm (Refused refusal) (Some (Compile model code)) h h' b b' ends plain = ends.0.no_fault
-host-calm (Refused refusal) (Some (Run model code trace)) h h' b b' ends plain = ends.0.no_fault
-host-calm (Refused refusal) (Some (Exec code trace)) h h' b b' ends plain = absurd ends
-host-calm (Refused refusal) (Some (Profile model)) h h' b b' ends plain = ends.0.no_fault
-host-calm (Refused refusal) (Some (Drive model code word script)) h h' b b' ends plain = ends.0.no_fault
-host-calm (Refused refusal) (Some (Gen start size model code)) h h' b b' ends plain = ends.0.left.no_fault
-host-calm (BadTrace line) None h h' b b' ends plain = absurd ends.0
-host-calm (BadScript stop) None h h' b b' ends plain = absurd ends.0
-host-calm (BadTrace line) (Some (Compile model code)) h h' b b' ends plain = absurd ends.0
-host-calm (BadScript stop) (Some (Compile model code)) h h' b b' ends plain = absurd ends.0
-host-calm (BadTrace line) (Some (Run model code trace)) h h' b b' ends plain = ends.no_fault
-host-calm (BadScript stop) (Some (Run model code trace)) h h' b b' ends plain = absurd ends
-host-calm (BadTrace line) (Some (Exec code trace)) h h' b b' ends plain = ends.left.no_fault
-host-calm (BadScript stop) (Some (Exec code trace)) h h' b b' ends plain = absurd ends
-host-calm (BadTrace line) (Some (Profile model)) h h' b b' ends plain = absurd ends.0
-host-calm (BadScript stop) (Some (Profile model)) h h' b b' ends plain = absurd ends.0
-host-calm (BadTrace line) (Some (Drive model code word script)) h h' b b' ends plain = absurd ends
-host-calm (BadTrace line) (Some (Gen start size model code)) h h' b b' ends plain = absurd ends
-host-calm (BadScript NoSubsystem) (Some (Drive model code word script)) h h' b b' ends plain = ends.left.no_fault
-host-calm (BadScript (Line bad)) (Some (Drive model code word script)) h h' b b' ends plain = ends.no_fault
-host-calm (BadScript (Call refused)) (Some (Drive model code word script)) h h' b b' ends plain = ends.no_fault
-host-calm (BadScript stop) (Some (Gen start size model code)) h h' b b' ends plain = absurd ends
-host-calm (CodeRefused fault) None h h' b b' ends plain = absurd ends.0
-host-calm (CodeRefused fault) (Some (Compile model code)) h h' b b' ends plain = absurd ends.0
-host-calm (CodeRefused fault) (Some (Run model code trace)) h h' b b' ends plain = absurd ends
-host-calm (CodeRefused fault) (Some (Exec code trace)) h h' b b' ends plain = ends.left.no_fault
-host-calm (CodeRefused fault) (Some (Profile model)) h h' b b' ends plain = absurd ends.0
-host-calm (CodeRefused fault) (Some (Drive model code word script)) h h' b b' ends plain = absurd ends
-host-calm (CodeRefused fault) (Some (Gen start size model code)) h h' b b' ends plain = absurd ends
-host-calm CodeTooLong None h h' b b' ends plain = absurd ends.0
-host-calm CodeTooLong (Some (Compile model code)) h h' b b' ends plain = absurd ends.0
-host-calm CodeTooLong (Some (Run model code trace)) h h' b b' ends plain = absurd ends
-host-calm CodeTooLong (Some (Exec code trace)) h h' b b' ends plain = ends.left.no_fault
-host-calm CodeTooLong (Some (Profile model)) h h' b b' ends plain = absurd ends.0
-host-calm CodeTooLong (Some (Drive model code word script)) h h' b b' ends plain = absurd ends
-host-calm CodeTooLong (Some (Gen start size model code)) h h' b b' ends plain = absurd ends
-host-calm (IsStuck at) None h h' b b' ends plain = absurd ends.0
-host-calm (IsStuck at) (Some (Compile model code)) h h' b b' ends plain = absurd ends.0
-host-calm (IsStuck at) (Some (Run model code trace)) h h' b b' ends plain = absurd ends
-host-calm (IsStuck at) (Some (Exec code trace)) h h' b b' (inl ends) plain = ends.left.no_fault
-host-calm (IsStuck at) (Some (Exec code trace)) h h' b b' (inr ends) plain = ends.left.no_fault
-host-calm (IsStuck at) (Some (Profile model)) h h' b b' ends plain = absurd ends.0
-host-calm (IsStuck at) (Some (Drive model code word script)) h h' b b' ends plain = absurd ends
-host-calm (IsStuck at) (Some (Gen start size model code)) h h' b b' ends plain = absurd ends
-host-calm ReadFault a h h' b b' ends plain = absurd (plain.no_read_fault refl)
-host-calm WriteFault a h h' b b' ends plain = absurd (plain.no_write_fault refl)
-host-calm PutFault a h h' b b' ends plain = absurd (plain.no_put_fault refl)
-host-calm NoMemory None h h' b b' ends plain = ends.0.no_fault
-host-calm NoMemory (Some (Compile model code)) h h' b b' ends plain = ends.0.no_fault
-host-calm NoMemory (Some (Run model code trace)) h h' b b' ends plain = ends.0.no_fault
-host-calm NoMemory (Some (Exec code trace)) h h' b b' ends plain = ends.0.no_fault
-host-calm NoMemory (Some (Profile model)) h h' b b' ends plain = ends.0.no_fault
-host-calm NoMemory (Some (Drive model code word script)) h h' b b' ends plain = ends.0.no_fault
-host-calm NoMemory (Some (Gen start size model code)) h h' b b' ends plain = ends.no_fault
+host-calm e None h h' b b' ends plain = unasked-calm e h h' ends.0
+host-calm e (Some (Compile model code)) h h' b b' ends plain = compile-calm e model code h h' b b' ends plain
+host-calm e (Some (Run model code trace)) h h' b b' ends plain = run-calm e model code trace h h' b b' ends plain
+host-calm e (Some (Exec code trace)) h h' b b' ends plain = exec-calm e code trace h h' b b' ends plain
+host-calm e (Some (Profile model)) h h' b b' ends plain = profile-calm e model h h' b b' ends plain
+host-calm e (Some (Drive model code word script)) h h' b b' ends plain = drive-calm e model code word script h h' b b' ends plain
+host-calm e (Some (Gen start size model code)) h h' b b' ends plain = generate-calm e start size model code h h' b b' ends plain
+host-calm e (Some (Lustre model file)) h h' b b' ends plain = lustre-calm e model file h h' b b' ends plain
+host-calm e (Some (Flow file trace)) h h' b b' ends plain = flow-calm e file trace h h' b b' ends plain
 
 -- no error of printing was counted but where a line wasn't printed
 same-puts : (e : Ending) (b b' : SinkTold) → e ≢ PutFault → CountsPuts e b b' → b'.faults ≡ b.faults
@@ -150,11 +168,11 @@ found-faultless found said s b b' (inr none) (inl (is, whole)) calm = (none.1, w
 found-faultless found said s b b' says (inr (seven, part)) calm = absurd (calm.no_put_fault seven)
 
 pub no_count : (s : ℕ) (a : Option Asked) (h h' : HostTold) (b b' : SinkTold) → EndsAt s a h h' b b' → TellsNoFault s →
-    (h'.read_faults ≡ h.read_faults) × (h'.write_faults ≡ h.write_faults) × (b'.faults ≡ b.faults)
+    KeepsCounts h h' b b'
 no_count s a h h' b b' e calm =
     let f : IsFaultless e.found × (b'.faults ≡ e.before.faults) = found-faultless e.found e.said s e.before b' e.says e.puts calm in
     let host : NoFault h h' = host-calm e.found a h h' b e.before e.ends.finds f.0 in
-    (host.read, host.write, f.1 ∙ same-puts e.found b e.before f.0.no_put_fault e.ends.counts)
+    record { host = host; puts = f.1 ∙ same-puts e.found b e.before f.0.no_put_fault e.ends.counts }
 
 -- ---- Errors are counted
 
@@ -178,11 +196,18 @@ read-rose (Some (Drive model code word script)) h h' b b' ends = unread ends
     unread (inl u) = u.0.rose
     unread (inr u) = u.0
 read-rose (Some (Gen start size model code)) h h' b b' ends = absurd ends
+read-rose (Some (Lustre model file)) h h' b b' ends = ends.0.rose
+read-rose (Some (Flow file trace)) h h' b b' ends = unread ends
+  where
+    unread : EndsFlowUnread file trace h h' b b' → Rose h.read_faults h'.read_faults
+    unread (inl u) = u.0.rose
+    unread (inr u) = u.0
 
 write-rose : (a : Option Asked) (h h' : HostTold) (b b' : SinkTold) → Finds WriteFault a h h' b b' → Rose h.write_faults h'.write_faults
 write-rose None h h' b b' ends = absurd ends.0
 write-rose (Some (Exec code trace)) h h' b b' ends = absurd ends
 write-rose (Some (Profile model)) h h' b b' ends = absurd ends.0
+write-rose (Some (Flow file trace)) h h' b b' ends = absurd ends
 write-rose _ h h' b b' ends = ends.0.rose
 
 -- a count that rose after the lines rose in the call

@@ -9,5 +9,7 @@ mod Unwritten
 mod ProfileLaws
 mod DrivesRight
 mod GenerateLaws
+mod LustreLaws
+mod FlowLaws
 mod RightLaws
 mod ReadFaults

@@ -1,11 +1,12 @@
--- A model has one verdict, a text one program or one error, and what is asked for comes to one status.
-use Rattle.std.proofs.Common.{◌≡◌, ℕ, inl, inr, List, [], ◌∷◌, map, refl, sym, ap, subst, ◌∙◌, arith}
+-- A model has one verdict, a text one program or file or one error, and what is asked for comes to one status.
+use Rattle.std.proofs.Common.{◌≡◌, ◌⊎◌, ℕ, inl, inr, List, [], ◌∷◌, map, refl, sym, ap, subst, ◌∙◌, arith}
 use Rattle.std.specs.Prelude.{Option, Some, None, IsSomeAnd}
 use Rattle.base_refusals.specs.Refusals.{PlainRefusal}
 use Rattle.base_fixed_point.specs.declared.types.FixType.{FixType}
 use Rattle.base_host.specs.Files.{File, lookup}
 use Rattle.diagram_meaning.specs.Diagram.{Diagram}
 use Rattle.diagram_meaning.specs.ResolvedTable.{ResolvedTable, diagram_of_table}
+use Rattle.c_syntax.specs.declared.fault.CFault.{CFault}
 use Rattle.c_syntax.specs.Tree.{ParamTree, ProcedureTree, ProgramTree}
 use Rattle.c_semantics.specs.Machine.{Outcome, done, stuck}
 use Rattle.c_semantics.specs.Rows.{start_run}
@@ -14,15 +15,19 @@ use Rattle.c_reading_laws.specs.Agreement.{ReadingsAgree}
 use Rattle.c_syntax.proofs.lemmas.NameFacts.{AreDistinct-back}
 use Rattle.c_checked.specs.Checked.{fix_type}
 use Rattle.diagram_verdict.specs.Verdict.{Verdict, HasVerdict, Accepted, Refused as IsRefused, HasOneVerdict}
+use Rattle.lustre_syntax.specs.Tree.{FileTree}
+use Rattle.lustre_rules.specs.Reading.{LustreText, LustreFaultOf}
+use Rattle.lustre_reading_laws.specs.ReadingLaws.{HasOneReading, HasOneFault, TextsAreJudged}
+use Rattle.lustre_right.specs.LongDelays.{long_delay}
 use Rattle.tool_compiled.specs.Compilation.{root_types}
 use Rattle.tool_generator.specs.Models.{model_text}
 use Rattle.tool_driver.specs.Shapes.{Shape}
 use Rattle.tool_system_driver.specs.SystemShapes.{ShapesAreOne}
 use Rattle.tool_system_driver.specs.Words.{system_named}
 use Rattle.tool_script_runner.specs.ScriptEnds.{script_end}
-use Rattle.tool_words.specs.Words.{Asked, Compile, Run, Exec, Profile, Drive, Gen}
+use Rattle.tool_words.specs.Words.{Asked, Compile, Run, Exec, Profile, Drive, Gen, Lustre, Flow}
 use Rattle.tool_endings.specs.Runs.{HasStepTypes, bad_line}
-use Rattle.tool_endings.specs.Statuses.{ModelComes, ProgramComes, CodeComes, Comes, run_status, status_over, status_at, SystemComes, DriveComes}
+use Rattle.tool_endings.specs.Statuses.{ModelComes, ProgramComes, CodeComes, Comes, run_status, status_over, status_at, SystemComes, DriveComes, lustre_status, flow_status_over, FlowComes}
 use Rattle.tool_endings.proofs.lemmas.StepTypes.{one_place}
 
 -- ---- Verdicts
@@ -67,6 +72,30 @@ same_types p a b lawful h k =
     AreDistinct-back (pure_names p.pures) (procedure_names p.procedures) lawful.functions in
     let same : h.step ≡ k.step = one_place p.procedures h.place k.place h.step k.step distinct h.there k.there (h.named ∙ sym k.named) in
     somes-same a b (sym h.inputs ∙ ap (λ (q : ProcedureTree). map (λ (x : ParamTree). fix_type x.type) q.params) same ∙ k.inputs)
+
+-- ---- Files of Lustre
+
+module _ (judged : TextsAreJudged) (bytes : List ℕ) where
+  pub same_file : (f g : FileTree) → LustreText bytes f → LustreText bytes g → f ≡ g
+  same_file f g a b = by (judged bytes)
+    where
+      by : HasOneReading bytes ⊎ HasOneFault bytes → f ≡ g
+      by (inl r) = r.one f a ∙ sym (r.one g b)
+      by (inr r) = absurd (r.unread f a)
+
+  pub same_fault : (fault other : CFault) → LustreFaultOf bytes fault → LustreFaultOf bytes other → fault ≡ other
+  same_fault fault other a b = by (judged bytes)
+    where
+      by : HasOneReading bytes ⊎ HasOneFault bytes → fault ≡ other
+      by (inl r) = absurd (r.faultless fault a)
+      by (inr r) = r.one fault a ∙ sym (r.one other b)
+
+  pub read_only : (f : FileTree) (fault : CFault) → LustreText bytes f → LustreFaultOf bytes fault → ⊥
+  read_only f fault a b = by (judged bytes)
+    where
+      by : HasOneReading bytes ⊎ HasOneFault bytes → ⊥
+      by (inl r) = r.faultless fault b
+      by (inr r) = r.unread f a
 
 -- ---- Statuses
 
@@ -120,23 +149,44 @@ drive-one one shapes model word script n m (inr (r, is, h)) (inr (other, also, k
     system-one shapes r (system_named r.table.rows word) script n m h
     (subst (λ (x : ResolvedTable). SystemComes x (system_named x.table.rows word) script m) (same_resolution one model other r also is) k)
 
+flow-one : TextsAreJudged → (bytes : List ℕ) (trace : Option (List ℕ)) (n m : ℕ) → FlowComes bytes trace n → FlowComes bytes trace m →
+    n ≡ m
+flow-one judged bytes trace n m (inl (long, h)) (inl (also, k)) = h ∙ sym k
+flow-one judged bytes trace n m (inl (long, h)) (inr (inl (fits, k))) = absurd (omega (arith, long, fits))
+flow-one judged bytes trace n m (inl (long, h)) (inr (inr (y, k))) = let fits = y.fits in absurd (omega (arith, long, fits))
+flow-one judged bytes trace n m (inr (inl (fits, h))) (inl (long, k)) = absurd (omega (arith, long, fits))
+flow-one judged bytes trace n m (inr (inr (x, h))) (inl (long, k)) = let fits = x.fits in absurd (omega (arith, long, fits))
+flow-one judged bytes trace n m (inr (inl (fits, (f, is, h)))) (inr (inl (also, (g, too, k)))) = h ∙ sym k
+flow-one judged bytes trace n m (inr (inl (fits, (f, is, h)))) (inr (inr (y, k))) = absurd (read_only judged bytes y.tree f y.reading is)
+flow-one judged bytes trace n m (inr (inr (x, h))) (inr (inl (also, (g, is, k)))) = absurd (read_only judged bytes x.tree g x.reading is)
+flow-one judged bytes trace n m (inr (inr (x, h))) (inr (inr (y, k))) =
+    some-one trace n m h k (λ lines u v.
+    u ∙ ap (λ (f : FileTree). flow_status_over f lines) (same_file judged bytes x.tree y.tree x.reading y.reading) ∙ sym v)
+
 -- the status of a run of a diagram's code over the trace of this name
 abbrev RunComes : List ℕ → List File → ℕ → Diagram → Type 0
 RunComes trace fs n d = IsSomeAnd (lookup trace fs) (λ lines. n ≡ run_status None (bad_line (root_types d) lines))
 
 -- what is asked for comes to one status
-pub comes-one : OneVerdict → ReadingsAgree → ShapesAreOne → (a : Asked) (fs : List File) (n m : ℕ) → Comes a fs n → Comes a fs m → n ≡ m
-comes-one one agree shapes (Compile model code) fs n m h k =
+pub comes-one : OneVerdict → ReadingsAgree → TextsAreJudged → ShapesAreOne → (a : Asked) (fs : List File) (n m : ℕ) → Comes a fs n →
+    Comes a fs m → n ≡ m
+comes-one one agree judged shapes (Compile model code) fs n m h k =
     some-one (lookup model fs) n m h k (λ bytes x y. model-one one bytes n m {P = λ d. n ≡ 0} {Q = λ d. m ≡ 0} (λ d p q. p ∙ sym q) x y)
-comes-one one agree shapes (Run model code trace) fs n m h k =
+comes-one one agree judged shapes (Run model code trace) fs n m h k =
     some-one (lookup model fs) n m h k
     (λ bytes x y. model-one one bytes n m {P = RunComes trace fs n} {Q = RunComes trace fs m}
     (λ d p q. some-one (lookup trace fs) n m p q (λ lines u v. u ∙ sym v)) x y)
-comes-one one agree shapes (Exec code trace) fs n m h k =
+comes-one one agree judged shapes (Exec code trace) fs n m h k =
     some-one (lookup code fs) n m h k (λ bytes x y. code-one agree bytes (lookup trace fs) n m x y)
-comes-one one agree shapes (Profile model) fs n m h k =
+comes-one one agree judged shapes (Profile model) fs n m h k =
     some-one (lookup model fs) n m h k (λ bytes x y. model-one one bytes n m {P = λ d. n ≡ 0} {Q = λ d. m ≡ 0} (λ d p q. p ∙ sym q) x y)
-comes-one one agree shapes (Drive model code word script) fs n m h k =
+comes-one one agree judged shapes (Drive model code word script) fs n m h k =
     some-one (lookup model fs) n m h k (λ bytes x y. drive-one one shapes bytes word (lookup script fs) n m x y)
-comes-one one agree shapes (Gen start size model code) fs n m h k =
+comes-one one agree judged shapes (Gen start size model code) fs n m h k =
     model-one one (model_text start size) n m {P = λ d. n ≡ 0} {Q = λ d. m ≡ 0} (λ d p q. p ∙ sym q) h k
+comes-one one agree judged shapes (Lustre model file) fs n m h k =
+    some-one (lookup model fs) n m h k (λ bytes x y.
+    model-one one bytes n m {P = λ d. n ≡ lustre_status (long_delay d)} {Q = λ d. m ≡ lustre_status (long_delay d)}
+    (λ d p q. p ∙ sym q) x y)
+comes-one one agree judged shapes (Flow file trace) fs n m h k =
+    some-one (lookup file fs) n m h k (λ bytes x y. flow-one judged bytes (lookup trace fs) n m x y)

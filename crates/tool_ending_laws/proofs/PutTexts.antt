@@ -1,5 +1,5 @@
 -- What is printed, of the texts one after another, and of refusals.
-use Rattle.std.proofs.Common.{◌≡◌, ℕ, inl, inr, List, ◌++◌, refl, sym, ap, ◌∙◌, append_assoc, arith}
+use Rattle.std.proofs.Common.{◌≡◌, ◌≢◌, ℕ, inl, inr, List, ◌++◌, refl, sym, ap, ◌∙◌, append_assoc, arith}
 use Rattle.std.specs.Prelude.{Option, Some, None}
 use Rattle.std.specs.Io.KnownBytes.{append_known}
 use Rattle.base_refusals.specs.Refusals.{PlainRefusal, refusal_line}
@@ -13,7 +13,7 @@ use Rattle.tool_runner.specs.Texts.{ticks_text}
 use Rattle.tool_endings.specs.Told.{HostTold, SinkTold}
 use Rattle.tool_endings.specs.Runs.{rows_over, bad_line, PutsTicks}
 use Rattle.tool_endings.specs.Endings.{PutsWhole}
-use Rattle.tool_endings.specs.Headline.{TellsRefusal, last_line, run_text}
+use Rattle.tool_endings.specs.Headline.{Tells, TellsRefusal, last_line, run_text}
 use Rattle.tool_ending_laws.proofs.OneAnswer.{OneVerdict, same_refusal}
 
 -- ---- Texts one after another
@@ -53,6 +53,10 @@ run_lines p types lines b before b' place bad last free good is ticks whole =
     put-run b before b' (rows_over p types lines).ticks last ticks whole
     ∙ ap (λ (x : List ℕ). append_known b.bytes (ticks_text (rows_over p types lines).ticks ++ x)) is
     ∙ ap (append_known b.bytes) (text-by p types lines place bad free good)
+
+-- where memory runs out, a text that another status tells isn't printed
+pub tells_memory : (n : ℕ) (text : List ℕ) (s : ℕ) (b b' : SinkTold) → s ≡ 10 → n ≢ 10 → Tells n text s b b'
+tells_memory n text s b b' is other = record { status = inr is; put = λ same. absurd (other (sym same ∙ is)) }
 
 -- ---- Refusals
 

@@ -8,23 +8,25 @@ use Rattle.c_semantics.specs.Machine.{After, Outcome, done, stuck}
 use Rattle.c_semantics.specs.Rows.{start_run}
 use Rattle.c_reading_laws.specs.Agreement.{ReadingsAgree}
 use Rattle.diagram_meaning.specs.ResolvedTable.{ResolvedTable}
+use Rattle.lustre_reading_laws.specs.ReadingLaws.{TextsAreJudged}
 use Rattle.tool_system_driver.specs.Words.{system_named}
 use Rattle.tool_endings.specs.declared.ending.Ending.{Ending}
 use Rattle.tool_endings.specs.declared.ending.Ending.TheVariants.{ReadFault}
-use Rattle.tool_words.specs.Words.{Asked, Compile, Run, Exec, Profile, Drive, Gen}
+use Rattle.tool_words.specs.Words.{Asked, Compile, Run, Exec, Profile, Drive, Gen, Lustre, Flow}
 use Rattle.tool_endings.specs.Told.{HostTold, SinkTold}
 use Rattle.tool_endings.specs.EndingsOfRuns.{EndsRunUnread, EndsExecUnread, LosesTrace, LosesTraceOf}
 use Rattle.tool_endings.specs.EndingsOfDriving.{EndsDriveUnread, LosesScript}
+use Rattle.tool_endings.specs.EndingsOfFlows.{EndsFlowUnread, LosesFlows}
 use Rattle.tool_endings.specs.Endings.{Finds, EndsAt}
 use Rattle.tool_compiled.specs.Compilation.{root_types}
 use Rattle.tool_endings.specs.Runs.{bad_line}
-use Rattle.tool_endings.specs.Statuses.{run_status, ModelComes, ProgramComes, SystemComes, CodeComes, DriveComes, Comes, OnTold}
+use Rattle.tool_endings.specs.Statuses.{run_status, ModelComes, ProgramComes, SystemComes, CodeComes, DriveComes, FlowComes, Comes, OnTold}
 use Rattle.tool_endings.specs.Completeness.{LacksOne}
 use Rattle.tool_endings.proofs.lemmas.Files.{IfTold, named, told_one, told_any, told-map}
 use Rattle.tool_ending_laws.specs.Laws.{SureOfThere, IsNeeded}
 use Rattle.tool_ending_laws.proofs.FaultStatuses.{only_read}
 use Rattle.tool_ending_laws.proofs.EndingLaws.{SaysFound, says_found}
-use Rattle.tool_ending_laws.proofs.OneAnswer.{OneVerdict, accepted_only, same_resolution}
+use Rattle.tool_ending_laws.proofs.OneAnswer.{OneVerdict, accepted_only, same_resolution, read_only}
 
 -- ---- A file that isn't there
 
@@ -94,6 +96,14 @@ drive-none one word script code bytes fs h h' b b' n loses none (inr accepted) =
     system-none accepted.0 (system_named accepted.0.table.rows word) w.driven.system (lookup script fs) n
     (ap (λ (x : ResolvedTable). system_named x.table.rows word) (sym same) ∙ w.named) none accepted.2
 
+flow-none : TextsAreJudged → (trace bytes : List ℕ) (fs : List File) (h h' : HostTold) (b b' : SinkTold) (n : ℕ) →
+    LosesFlows trace bytes h h' b b' → lookup trace fs ≡ None → FlowComes bytes (lookup trace fs) n → ⊥
+flow-none judged trace bytes fs h h' b b' n loses none (inl long) =
+    let fits = loses.file.fits in let over = long.0 in absurd (omega (arith, fits, over))
+flow-none judged trace bytes fs h h' b b' n loses none (inr (inl fault)) =
+    read_only judged bytes loses.file.tree fault.1.0 loses.file.reading fault.1.1
+flow-none judged trace bytes fs h h' b b' n loses none (inr (inr found)) = none-there (lookup trace fs) _ none found.1
+
 -- with such files what is asked for comes to no status
 abbrev ToNothing : Asked → HostTold → Type 0
 ToNothing a h = IfTold h.files h.rest (λ fs. SureOfThere h fs → IsNeeded a fs)
@@ -135,22 +145,33 @@ drive-nothing one model code word script h h' b b' (inr ends) =
     both-there (lookup model fs) (λ bytes. LosesScript word script code bytes h h' b b') _ there comes
     (λ bytes loses comes. drive-none one word script code bytes fs h h' b b' n loses (second-gone model script fs _ there lacks) comes))
 
-fault-nothing : OneVerdict → ReadingsAgree → (a : Asked) (h h' : HostTold) (b b' : SinkTold) →
+flow-nothing : TextsAreJudged → (file trace : List ℕ) (h h' : HostTold) (b b' : SinkTold) → EndsFlowUnread file trace h h' b b' →
+    ToNothing (Flow file trace) h
+flow-nothing judged file trace h h' b b' (inl ends) = first-unread (Flow file trace) file h _ ends.0.unsure (λ n fs comes. comes)
+flow-nothing judged file trace h h' b b' (inr ends) =
+    told_one h.files h.rest file (named h file ends.2) (λ fs there sure lacks n comes.
+    both-there (lookup file fs) (λ bytes. LosesFlows trace bytes h h' b b') _ there comes
+    (λ bytes loses comes. flow-none judged trace bytes fs h h' b b' n loses (second-gone file trace fs _ there lacks) comes))
+
+fault-nothing : OneVerdict → ReadingsAgree → TextsAreJudged → (a : Asked) (h h' : HostTold) (b b' : SinkTold) →
     Finds ReadFault (Some a) h h' b b' → ToNothing a h
-fault-nothing one agree (Compile model code) h h' b b' ends =
+fault-nothing one agree judged (Compile model code) h h' b b' ends =
     first-unread (Compile model code) model h _ ends.0.unsure (λ n fs comes. comes)
-fault-nothing one agree (Run model code trace) h h' b b' ends = run-nothing one model code trace h h' b b' ends
-fault-nothing one agree (Exec code trace) h h' b b' ends = exec-nothing agree code trace h h' b b' ends
-fault-nothing one agree (Profile model) h h' b b' ends = first-unread (Profile model) model h _ ends.0.unsure (λ n fs comes. comes)
-fault-nothing one agree (Drive model code word script) h h' b b' ends = drive-nothing one model code word script h h' b b' ends
-fault-nothing one agree (Gen start size model code) h h' b b' ends = absurd ends
+fault-nothing one agree judged (Run model code trace) h h' b b' ends = run-nothing one model code trace h h' b b' ends
+fault-nothing one agree judged (Exec code trace) h h' b b' ends = exec-nothing agree code trace h h' b b' ends
+fault-nothing one agree judged (Profile model) h h' b b' ends = first-unread (Profile model) model h _ ends.0.unsure (λ n fs comes. comes)
+fault-nothing one agree judged (Drive model code word script) h h' b b' ends = drive-nothing one model code word script h h' b b' ends
+fault-nothing one agree judged (Gen start size model code) h h' b b' ends = absurd ends
+fault-nothing one agree judged (Lustre model file) h h' b b' ends =
+    first-unread (Lustre model file) model h _ ends.0.unsure (λ n fs comes. comes)
+fault-nothing one agree judged (Flow file trace) h h' b b' ends = flow-nothing judged file trace h h' b b' ends
 
 -- ---- By status
 
-pub five_to_nothing : OneVerdict → ReadingsAgree → (s : ℕ) (a : Option Asked) (h h' : HostTold) (b b' : SinkTold) →
+pub five_to_nothing : OneVerdict → ReadingsAgree → TextsAreJudged → (s : ℕ) (a : Option Asked) (h h' : HostTold) (b b' : SinkTold) →
     EndsAt s a h h' b b' → OnTold a h (λ a fs. s ≡ 5 → SureOfThere h fs → IsNeeded a fs)
-five_to_nothing one agree s None h h' b b' e = tt
-five_to_nothing one agree s (Some a) h h' b b' e = by (eqb_tells s 5)
+five_to_nothing one agree judged s None h h' b b' e = tt
+five_to_nothing one agree judged s (Some a) h h' b b' e = by (eqb_tells s 5)
   where
     by : {A B : Type 0} → (A × (s ≡ 5)) ⊎ (B × (s ≢ 5)) → OnTold (Some a) h (λ a fs. s ≡ 5 → SureOfThere h fs → IsNeeded a fs)
     by (inr other) = told_any h.files h.rest (λ fs five. absurd (other.1 five))
@@ -158,6 +179,6 @@ five_to_nothing one agree s (Some a) h h' b b' e = by (eqb_tells s 5)
         let five : s ≡ 5 = is.1 in
         let f : SaysFound s (Some a) h h' b b' =
         says_found s (Some a) h h' b b' e (λ seven. omega (arith, five, seven)) (λ ten. omega (arith, five, ten)) in
-        told-map h.files h.rest (fault-nothing one agree a h h' b f.before
+        told-map h.files h.rest (fault-nothing one agree judged a h h' b f.before
         (subst (λ (x : Ending). Finds x (Some a) h h' b f.before) (only_read f.found (sym f.status ∙ five)) f.ends.finds))
         (λ fs needed again. needed)

@@ -16,13 +16,14 @@ use Rattle.c_semantics.specs.Machine.{After, done, stuck}
 use Rattle.c_semantics.specs.Rows.{start_run}
 use Rattle.c_rules.specs.Reading.{CFaultOf}
 use Rattle.c_reading_laws.specs.Agreement.{ReadingsAgree}
+use Rattle.lustre_reading_laws.specs.ReadingLaws.{TextsAreJudged}
 use Rattle.emit_notes.specs.ModelNotes.{HasNotesOf}
 use Rattle.tool_compiled.specs.Compilation.{Compilation, root_types, IsCompilationOf}
 use Rattle.tool_runner.specs.declared.outcome.Totals.{Totals}
 use Rattle.tool_endings.specs.declared.ending.Ending.{Ending}
 use Rattle.tool_endings.specs.declared.ending.Ending.TheVariants.{Compiled, Ran, Refused, BadTrace, CodeRefused, CodeTooLong, Stuck as IsStuck, ReadFault, WriteFault, PutFault, NoMemory}
 use Rattle.tool_system_driver.specs.SystemShapes.{ShapesAreOne}
-use Rattle.tool_words.specs.Words.{Asked, Compile, Run, Exec, Profile, Drive, Gen}
+use Rattle.tool_words.specs.Words.{Asked, Compile, Run, Exec, Profile, Drive, Gen, Lustre, Flow}
 use Rattle.tool_endings.specs.Told.{HostTold, SinkTold}
 use Rattle.tool_endings.specs.Texts.{compiled_line, totals_line, code_refused_line, long_code_line, stuck_line}
 use Rattle.tool_endings.specs.Runs.{HasStepTypes, rows_in, rows_over, bad_line, PutsTicks}
@@ -35,11 +36,13 @@ use Rattle.tool_endings.proofs.lemmas.Files.{any_file, known_file, named}
 use Rattle.tool_ending_laws.proofs.EndingLaws.{SaysFound, says_found, calm_plain}
 use Rattle.tool_ending_laws.proofs.OneAnswer.{OneVerdict, accepted_only, same_resolution, same_types}
 use Rattle.tool_endings.proofs.lemmas.TraceTypes.{rows-trace}
-use Rattle.tool_ending_laws.proofs.PutTexts.{put_alone, run_lines, tells_refusal, refusal_unsaid}
-use Rattle.tool_ending_laws.proofs.Unwritten.{exec_unwritten, profile_unwritten}
+use Rattle.tool_ending_laws.proofs.PutTexts.{put_alone, run_lines, tells_memory, tells_refusal, refusal_unsaid}
+use Rattle.tool_ending_laws.proofs.Unwritten.{exec_unwritten, profile_unwritten, flow_unwritten}
 use Rattle.tool_ending_laws.proofs.ProfileLaws.{profile_does, profile_memory}
 use Rattle.tool_ending_laws.proofs.DrivesRight.{drive_does, drive_memory}
 use Rattle.tool_ending_laws.proofs.GenerateLaws.{generate_does, generate_memory}
+use Rattle.tool_ending_laws.proofs.LustreLaws.{lustre_does, lustre_memory}
+use Rattle.tool_ending_laws.proofs.FlowLaws.{flow_does, flow_memory}
 
 -- ---- `compile`
 
@@ -190,9 +193,6 @@ told-run p types lines s b before b' place bad free good is ticks whole = record
   put = λ _. run_lines p types lines b before b' place bad (last_line (rows_over p types lines).ticks place bad) free good refl ticks whole;
 }
 
-tells-memory : (n : ℕ) (text : List ℕ) (s : ℕ) (b b' : SinkTold) → s ≡ 10 → n ≢ 10 → Tells n text s b b'
-tells-memory n text s b b' is other = record { status = inr is; put = λ same. absurd (other (sym same ∙ is)) }
-
 run-status-small : (place : Option Stuck) (bad : Option BadLine) → run_status place bad ≢ 10
 run-status-small (Some at) bad = λ e. omega arith
 run-status-small None (Some line) = λ e. omega arith
@@ -202,11 +202,11 @@ exec-memory : (bytes trace : List ℕ) (s : ℕ) (h h' : HostTold) (b b' : SinkT
     Executes bytes trace s h h' b b'
 exec-memory bytes trace s h h' b b' is written = record {
   unwritten = written;
-  long = λ long. tells-memory 8 long_code_line s b b' is (λ e. omega arith);
-  unread = λ fits fault refuses. tells-memory 8 (code_refused_line fault) s b b' is (λ e. omega arith);
-  stuck = λ fits p text at cells start. tells-memory 9 (stuck_line at) s b b' is (λ e. omega arith);
+  long = λ long. tells_memory 8 long_code_line s b b' is (λ e. omega arith);
+  unread = λ fits fault refuses. tells_memory 8 (code_refused_line fault) s b b' is (λ e. omega arith);
+  stuck = λ fits p text at cells start. tells_memory 9 (stuck_line at) s b b' is (λ e. omega arith);
   runs = λ fits p text after start types inputs. any_file h.files h.rest trace (λ lines.
-      tells-memory (status_over p types lines) (run_text p types lines) s b b' is
+      tells_memory (status_over p types lines) (run_text p types lines) s b b' is
       (run-status-small (rows_over p types lines).stuck_place (bad_line types lines)));
 }
 
@@ -308,21 +308,25 @@ exec-does agree _ s code trace h h' b before b' ends plain is whole = absurd end
 
 -- ---- All
 
-does : OneVerdict → ReadingsAgree → ShapesAreOne → (e : Ending) (s : ℕ) (a : Option Asked) (h h' : HostTold) (b before b' : SinkTold) →
-    Finds e a h h' b before → IsPlain (status_of e) → s ≡ status_of e → PutsWhole (text_of e) before b' → Does s a h h' b b'
-does one agree shapes e s None h h' b before b' ends plain is whole = tt
-does one agree shapes e s (Some (Compile model code)) h h' b before b' ends plain is whole =
+does : OneVerdict → ReadingsAgree → TextsAreJudged → ShapesAreOne → (e : Ending) (s : ℕ) (a : Option Asked) (h h' : HostTold)
+    (b before b' : SinkTold) → Finds e a h h' b before → IsPlain (status_of e) → s ≡ status_of e → PutsWhole (text_of e) before b' → Does s a h h' b b'
+does one agree judged shapes e s None h h' b before b' ends plain is whole = tt
+does one agree judged shapes e s (Some (Compile model code)) h h' b before b' ends plain is whole =
     compile-does one e s model code h h' b before b' ends plain is whole
-does one agree shapes e s (Some (Run model code trace)) h h' b before b' ends plain is whole =
+does one agree judged shapes e s (Some (Run model code trace)) h h' b before b' ends plain is whole =
     run-does one e s model code trace h h' b before b' ends plain is whole
-does one agree shapes e s (Some (Exec code trace)) h h' b before b' ends plain is whole =
+does one agree judged shapes e s (Some (Exec code trace)) h h' b before b' ends plain is whole =
     exec-does agree e s code trace h h' b before b' ends plain is whole
-does one agree shapes e s (Some (Profile model)) h h' b before b' ends plain is whole =
+does one agree judged shapes e s (Some (Profile model)) h h' b before b' ends plain is whole =
     profile_does one e s model h h' b before b' ends plain is whole
-does one agree shapes e s (Some (Drive model code word script)) h h' b before b' ends plain is whole =
+does one agree judged shapes e s (Some (Drive model code word script)) h h' b before b' ends plain is whole =
     drive_does one shapes e s model code word script h h' b before b' ends plain is whole
-does one agree shapes e s (Some (Gen start size model code)) h h' b before b' ends plain is whole =
+does one agree judged shapes e s (Some (Gen start size model code)) h h' b before b' ends plain is whole =
     generate_does one e s start size model code h h' b before b' ends plain is whole
+does one agree judged shapes e s (Some (Lustre model file)) h h' b before b' ends plain is whole =
+    lustre_does one e s model file h h' b before b' ends plain is whole
+does one agree judged shapes e s (Some (Flow file trace)) h h' b before b' ends plain is whole =
+    flow_does judged e s file trace h h' b before b' ends plain is whole
 
 -- running out of memory, whatever was found
 starved : (e : Ending) (s : ℕ) (a : Option Asked) (h h' : HostTold) (b before b' : SinkTold) → s ≡ 10 →
@@ -339,14 +343,18 @@ starved e s (Some (Profile model)) h h' b before b' is ends =
 starved e s (Some (Drive model code word script)) h h' b before b' is ends =
     any_file h.files h.rest model (λ bytes. drive_memory word script code bytes s h h' b b' is)
 starved e s (Some (Gen start size model code)) h h' b before b' is ends = generate_memory start size s model code h h' b b' is
+starved e s (Some (Lustre model file)) h h' b before b' is ends =
+    any_file h.files h.rest model (λ bytes. lustre_memory bytes s file h h' b b' is)
+starved e s (Some (Flow file trace)) h h' b before b' is ends =
+    any_file h.files h.rest file (λ bytes. flow_memory bytes trace s h h' b b' is (flow_unwritten e file trace h h' b before ends))
 
-pub does_right : OneVerdict → ReadingsAgree → ShapesAreOne → (s : ℕ) (a : Option Asked) (h h' : HostTold) (b b' : SinkTold) →
-    EndsAt s a h h' b b' → DoesRight s a h h' b b'
-does_right one agree shapes s a h h' b b' e calm = by (eqb_tells s 10)
+pub does_right : OneVerdict → ReadingsAgree → TextsAreJudged → ShapesAreOne → (s : ℕ) (a : Option Asked) (h h' : HostTold)
+    (b b' : SinkTold) → EndsAt s a h h' b b' → DoesRight s a h h' b b'
+does_right one agree judged shapes s a h h' b b' e calm = by (eqb_tells s 10)
   where
     by : {A B : Type 0} → (A × (s ≡ 10)) ⊎ (B × (s ≢ 10)) → Does s a h h' b b'
     by (inl ten) = starved e.found s a h h' b e.before b' ten.1 e.ends.finds
     by (inr other) =
         let plain : IsPlain s = calm_plain s a h h' b b' e calm other.1 in
         let f : SaysFound s a h h' b b' = says_found s a h h' b b' e plain.no_put_fault other.1 in
-        does one agree shapes f.found s a h h' b f.before b' f.ends.finds (subst IsPlain f.status plain) f.status f.whole
+        does one agree judged shapes f.found s a h h' b f.before b' f.ends.finds (subst IsPlain f.status plain) f.status f.whole

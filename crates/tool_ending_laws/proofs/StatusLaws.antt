@@ -1,5 +1,5 @@
 -- To which status a call comes, by the way in which it ended.
-use Rattle.std.proofs.Common.{◌≡◌, ℕ, inl, inr, List, refl, sym, ap, subst, ◌∙◌, arith}
+use Rattle.std.proofs.Common.{◌≡◌, ◌≢◌, ℕ, ◌<◌, inl, inr, List, refl, sym, ap, subst, ◌∙◌, arith}
 use Rattle.std.specs.Prelude.{Option, Some, None, IsSomeAnd}
 use Rattle.base_refusals.specs.Refusals.{plain_refusal}
 use Rattle.base_fixed_point.specs.declared.types.FixType.{FixType}
@@ -11,25 +11,32 @@ use Rattle.c_semantics.specs.Machine.{Outcome, done, stuck}
 use Rattle.c_semantics.specs.Rows.{start_run, rows_of_start}
 use Rattle.c_reading_laws.specs.Agreement.{ReadingsAgree}
 use Rattle.diagram_meaning.specs.ResolvedTable.{ResolvedTable, diagram_of_table}
+use Rattle.lustre_syntax.specs.Tree.{FileTree}
+use Rattle.lustre_flows.specs.declared.stuck.LusStuck.{LusStuck}
+use Rattle.lustre_flows.specs.Flows.{flows}
+use Rattle.lustre_reading_laws.specs.ReadingLaws.{TextsAreJudged}
 use Rattle.tool_compiled.specs.Compilation.{root_types}
 use Rattle.tool_driver.specs.Driven.{Driven, shape_of}
 use Rattle.tool_system_driver.specs.SystemShapes.{IsSystemOfModel, ShapesAreOne}
 use Rattle.tool_system_driver.specs.Words.{system_named}
 use Rattle.tool_script_runner.specs.ScriptEnds.{script_end}
+use Rattle.tool_flow_runner.specs.FlowTraces.{flow_rows, flow_bad_line}
 use Rattle.tool_endings.specs.declared.ending.Ending.{Ending}
-use Rattle.tool_endings.specs.declared.ending.Ending.TheVariants.{Compiled, Ran, Reported, Usage, Refused, BadTrace, BadScript, CodeRefused, CodeTooLong, Stuck as IsStuck, ReadFault, WriteFault, PutFault, NoMemory}
+use Rattle.tool_endings.specs.declared.ending.Ending.TheVariants.{Compiled, Ran, Reported, Noded, Flowed, Usage, Refused, BadTrace, BadScript, CodeRefused, CodeTooLong, Stuck as IsStuck, LustreRefused, LustreTooLong, LustreLong, FlowStuck, ReadFault, WriteFault, PutFault, NoMemory}
 use Rattle.tool_endings.specs.declared.ending.ScriptStop.TheVariants.{NoSubsystem, Line, Call}
-use Rattle.tool_words.specs.Words.{Asked, Compile, Run, Exec, Profile, Drive, Gen}
+use Rattle.tool_words.specs.Words.{Asked, Compile, Run, Exec, Profile, Drive, Gen, Lustre, Flow}
 use Rattle.tool_endings.specs.Told.{HostTold, SinkTold}
 use Rattle.tool_endings.specs.Runs.{HasStepTypes, rows_in, rows_over, bad_line, RunsTo}
 use Rattle.tool_endings.specs.EndingsOfModels.{OnBytes}
 use Rattle.tool_endings.specs.EndingsOfRuns.{WritesWhole, RunsModel, StartsCode, ExecutesCode}
 use Rattle.tool_endings.specs.Scripts.{DrivesTo}
 use Rattle.tool_endings.specs.EndingsOfDriving.{WritesDriven, DrivesModel}
+use Rattle.tool_endings.specs.EndingsOfFlows.{FlowsTo, ReadsLustre, RunsFlows}
 use Rattle.tool_endings.specs.Endings.{status_of, Finds, EndsAt, IsSaidOf, Puts}
-use Rattle.tool_endings.specs.Statuses.{IsPlain, IsExactly, ProgramComes, Comes, ComesExactly, OnTold, run_status, status_over, status_at, SystemComes}
+use Rattle.tool_endings.specs.Statuses.{IsPlain, IsExactly, ProgramComes, Comes, ComesExactly, OnTold, run_status, status_over, status_at, SystemComes, lustre_status, flow_status, flow_status_over}
+use Rattle.tool_endings.specs.Calls.{IsExactAt}
 use Rattle.tool_endings.proofs.lemmas.Files.{IfTold, named, there, at_there, told_one, told_two, told_any, told-map}
-use Rattle.tool_ending_laws.specs.Laws.{StatusesAreExact, EachIsExact}
+use Rattle.tool_ending_laws.specs.Laws.{StatusesAreExact, EachComesExactly}
 use Rattle.tool_ending_laws.proofs.EndingLaws.{SaysFound, says_found}
 use Rattle.tool_ending_laws.proofs.OneAnswer.{OneVerdict, comes-one}
 
@@ -120,6 +127,23 @@ drive-comes shapes e model code word script h h' b b' by_end found =
       system-comes shapes r (system_named r.table.rows word) w.driven (lookup script fs) (status_of e) w.of_model w.named
           (at_there (lookup script fs) k.1 (λ lines drives. by_end w.driven lines drives)),
     )))
+
+-- ---- Flows of a file
+
+pub flow_over : (f : FileTree) (lines : List ℕ) (place : Option LusStuck) (bad : Option BadLine) →
+    (flows f (flow_rows f lines)).stuck_place ≡ place → flow_bad_line f lines ≡ bad →
+    flow_status place bad ≡ flow_status_over f lines
+flow_over f lines place bad free good =
+    sym (ap (λ (x : Option LusStuck). flow_status x (flow_bad_line f lines)) free ∙ ap (flow_status place) good)
+
+flow-comes : (e : Ending) (file trace : List ℕ) (h h' : HostTold) (b b' : SinkTold) →
+    ((f : FileTree) (lines : List ℕ) → FlowsTo e f lines b b' → status_of e ≡ flow_status_over f lines) →
+    OnBytes h file (λ bytes. RunsFlows e trace bytes h h' b b') → ComesTo (status_of e) (Flow file trace) h
+flow-comes e file trace h h' b b' by_flows found =
+    told_two h.files h.rest file trace {X = ReadsLustre} {P = λ bytes (x : ReadsLustre bytes) lines. FlowsTo e x.tree lines b b'}
+    (there h.files h.rest file (named h file found) (λ bytes x. (x.file, named h trace x.runs)))
+    (λ fs known plain. at_there (lookup file fs) known (λ bytes k.
+    inr (inr (k.0, at_there (lookup trace fs) k.1 (λ lines run. by_flows k.0.tree lines run)))))
 
 -- ---- Each ending
 
@@ -236,6 +260,43 @@ generating-comes NoMemory start size model code h h' b b' ends =
     not-plain 10 (Gen start size model code) h (λ plain. plain.no_want_of_memory refl)
 generating-comes _ start size model code h h' b b' ends = absurd ends
 
+translating-comes : (e : Ending) (model file : List ℕ) (h h' : HostTold) (b b' : SinkTold) →
+    Finds e (Some (Lustre model file)) h h' b b' → ComesTo (status_of e) (Lustre model file) h
+translating-comes (Noded nodes) model file h h' b b' ends =
+    told_one h.files h.rest model (named h model ends.0.model) (λ fs known plain. at_there (lookup model fs) known (λ bytes w.
+    inr (w.1.resolved, w.1.verdict, sym (ap lustre_status w.1.short))))
+translating-comes (Refused refusal) model file h h' b b' ends =
+    told_one h.files h.rest model (named h model ends.0.model)
+    (λ fs known plain. at_there (lookup model fs) known (λ bytes v. inl (plain_refusal refusal, v, refl)))
+translating-comes (LustreLong place) model file h h' b b' ends =
+    told_one h.files h.rest model (named h model ends.0.model)
+    (λ fs known plain. at_there (lookup model fs) known (λ bytes x. inr (x.0, x.1, sym (ap lustre_status x.2))))
+translating-comes ReadFault model file h h' b b' ends = not-plain 5 (Lustre model file) h (λ plain. plain.no_read_fault refl)
+translating-comes WriteFault model file h h' b b' ends = not-plain 6 (Lustre model file) h (λ plain. plain.no_write_fault refl)
+translating-comes NoMemory model file h h' b b' ends = not-plain 10 (Lustre model file) h (λ plain. plain.no_want_of_memory refl)
+translating-comes _ model file h h' b b' ends = absurd ends.0
+
+flowing-comes : (e : Ending) (file trace : List ℕ) (h h' : HostTold) (b b' : SinkTold) →
+    Finds e (Some (Flow file trace)) h h' b b' → ComesTo (status_of e) (Flow file trace) h
+flowing-comes (Flowed ticks) file trace h h' b b' ends =
+    flow-comes (Flowed ticks) file trace h h' b b'
+    (λ f lines run. flow_over f lines None None run.whole.free run.whole.rows_only) ends.file
+flowing-comes (BadTrace line) file trace h h' b b' ends =
+    flow-comes (BadTrace line) file trace h h' b b' (λ f lines run. flow_over f lines None (Some line) run.free run.first_bad) ends.file
+flowing-comes (FlowStuck at) file trace h h' b b' ends =
+    flow-comes (FlowStuck at) file trace h h' b b'
+    (λ f lines run. sym (ap (λ (x : Option LusStuck). flow_status x (flow_bad_line f lines)) run.stuck)) ends.file
+flowing-comes (LustreRefused fault) file trace h h' b b' ends =
+    told_one h.files h.rest file (named h file ends.code)
+    (λ fs known plain. at_there (lookup file fs) known (λ bytes x. inr (inl (x.0, (fault, x.1, refl)))))
+flowing-comes LustreTooLong file trace h h' b b' ends =
+    told_one h.files h.rest file (named h file ends.code)
+    (λ fs known plain. at_there (lookup file fs) known (λ bytes long. inl (long, refl)))
+flowing-comes ReadFault file trace h h' b b' ends = not-plain 5 (Flow file trace) h (λ plain. plain.no_read_fault refl)
+flowing-comes PutFault file trace h h' b b' ends = not-plain 7 (Flow file trace) h (λ plain. plain.no_put_fault refl)
+flowing-comes NoMemory file trace h h' b b' ends = not-plain 10 (Flow file trace) h (λ plain. plain.no_want_of_memory refl)
+flowing-comes _ file trace h h' b b' ends = absurd ends
+
 comes-to : ShapesAreOne → (e : Ending) (a : Asked) (h h' : HostTold) (b b' : SinkTold) →
     Finds e (Some a) h h' b b' → ComesTo (status_of e) a h
 comes-to shapes e (Compile model code) h h' b b' ends = compile-comes e model code h h' b b' ends
@@ -244,6 +305,8 @@ comes-to shapes e (Exec code trace) h h' b b' ends = executing-comes e code trac
 comes-to shapes e (Profile model) h h' b b' ends = profiling-comes e model h h' b b' ends
 comes-to shapes e (Drive model code word script) h h' b b' ends = driving-comes shapes e model code word script h h' b b' ends
 comes-to shapes e (Gen start size model code) h h' b b' ends = generating-comes e start size model code h h' b b' ends
+comes-to shapes e (Lustre model file) h h' b b' ends = translating-comes e model file h h' b b' ends
+comes-to shapes e (Flow file trace) h h' b b' ends = flowing-comes e file trace h h' b b' ends
 
 -- ---- Exactly
 
@@ -252,10 +315,10 @@ unplain : (s : ℕ) (a : Asked) (h : HostTold) → (IsPlain s → ⊥) → OnTol
 unplain s a h fault =
     told_any h.files h.rest (λ fs. record { only = λ plain. absurd (fault plain); wherever = λ n also plain. absurd (fault plain) })
 
-pub comes_exactly : OneVerdict → ReadingsAgree → ShapesAreOne → (s : ℕ) (a : Option Asked) (h h' : HostTold) (b b' : SinkTold) →
-    EndsAt s a h h' b b' → OnTold a h (ComesExactly s)
-comes_exactly one agree shapes s None h h' b b' e = tt
-comes_exactly one agree shapes s (Some a) h h' b b' e = by e.found e.said e.before e.ends.finds e.says e.puts
+pub comes_exactly : OneVerdict → ReadingsAgree → TextsAreJudged → ShapesAreOne → (s : ℕ) (a : Option Asked) (h h' : HostTold)
+    (b b' : SinkTold) → EndsAt s a h h' b b' → OnTold a h (ComesExactly s)
+comes_exactly one agree judged shapes s None h h' b b' e = tt
+comes_exactly one agree judged shapes s (Some a) h h' b b' e = by e.found e.said e.before e.ends.finds e.says e.puts
   where
     by : (found said : Ending) (before : SinkTold) → Finds found (Some a) h h' b before → IsSaidOf said found →
         Puts said s before b' → OnTold (Some a) h (ComesExactly s)
@@ -264,68 +327,48 @@ comes_exactly one agree shapes s (Some a) h h' b b' e = by e.found e.said e.befo
         told-map h.files h.rest (comes-to shapes found a h h' b before finds) (λ fs comes. record {
           only = λ plain. subst (Comes a fs) (sym status) (comes (subst IsPlain status plain));
           wherever = λ n also plain.
-              comes-one one agree shapes a fs s n (subst (Comes a fs) (sym status) (comes (subst IsPlain status plain))) also;
+              comes-one one agree judged shapes a fs s n (subst (Comes a fs) (sym status) (comes (subst IsPlain status plain))) also;
         })
     by found said before finds (inr none) (inl (is, whole)) = unplain s a h (λ plain. plain.no_want_of_memory (is ∙ ap status_of none.0))
     by found said before finds says (inr (seven, part)) = unplain s a h (λ plain. plain.no_put_fault seven)
 
 -- the same of one status that no error gives
 exactly-by : (n s : ℕ) (a : Option Asked) (h : HostTold) → IsPlain n → OnTold a h (ComesExactly s) →
-    OnTold a h (λ a fs. IsExactly n s (Comes a fs n))
+    IsExactAt n s a h
 exactly-by n s None h plain all = tt
 exactly-by n s (Some a) h plain all = told-map h.files h.rest all (λ fs x. record {
   only = λ is. subst (Comes a fs) is (x.only (subst IsPlain (sym is) plain));
   wherever = λ comes other. x.wherever n comes other;
 })
 
-exactly : StatusesAreExact → (n : ℕ) → IsPlain n → (s : ℕ) (a : Option Asked) (h h' : HostTold) (b b' : SinkTold) →
-    EndsAt s a h h' b b' → OnTold a h (λ a fs. IsExactly n s (Comes a fs n))
-exactly law n plain s a h h' b b' ends =
-    let comes : OnTold a h (ComesExactly s) = law s a h h' b b' ends in exactly-by n s a h plain comes
-
-plain_three : IsPlain 3
-plain_three =
-    record {
-      no_read_fault = omega arith;
-      no_write_fault = omega arith;
-      no_put_fault = omega arith;
-      no_want_of_memory = omega arith;
-    }
-
-plain_four : IsPlain 4
-plain_four =
-    record {
-      no_read_fault = omega arith;
-      no_write_fault = omega arith;
-      no_put_fault = omega arith;
-      no_want_of_memory = omega arith;
-    }
-
-plain_eight : IsPlain 8
-plain_eight =
-    record {
-      no_read_fault = omega arith;
-      no_write_fault = omega arith;
-      no_put_fault = omega arith;
-      no_want_of_memory = omega arith;
-    }
-
-plain_nine : IsPlain 9
-plain_nine =
-    record {
-      no_read_fault = omega arith;
-      no_write_fault = omega arith;
-      no_put_fault = omega arith;
-      no_want_of_memory = omega arith;
-    }
-
-pub each_exactly : StatusesAreExact → EachIsExact
-each_exactly law = record {
-  refused = exactly law 3 plain_three;
-  bad_line = exactly law 4 plain_four;
-  no_program = exactly law 8 plain_eight;
-  stuck = exactly law 9 plain_nine;
+-- the statuses before those of errors, and after them but for that of running out of memory
+early : (n : ℕ) → n < 5 → IsPlain n
+early n before = record {
+  no_read_fault = λ is. omega (arith, before, is);
+  no_write_fault = λ is. omega (arith, before, is);
+  no_put_fault = λ is. omega (arith, before, is);
+  no_want_of_memory = λ is. omega (arith, before, is);
 }
+
+late : (n : ℕ) → 7 < n → n ≢ 10 → IsPlain n
+late n after other = record {
+  no_read_fault = λ is. omega (arith, after, is);
+  no_write_fault = λ is. omega (arith, after, is);
+  no_put_fault = λ is. omega (arith, after, is);
+  no_want_of_memory = other;
+}
+
+pub each_exactly : StatusesAreExact → EachComesExactly
+each_exactly law s a h h' b b' ends =
+    let comes : OnTold a h (ComesExactly s) = law s a h h' b b' ends in
+    let exactly : (n : ℕ) → IsPlain n → IsExactAt n s a h = λ n plain. exactly-by n s a h plain comes in
+    record {
+      refused = exactly 3 (early 3 (omega arith));
+      bad_line = exactly 4 (early 4 (omega arith));
+      no_program = exactly 8 (late 8 (omega arith) (omega arith));
+      stuck = exactly 9 (late 9 (omega arith) (omega arith));
+      no_lustre = exactly 11 (late 11 (omega arith) (omega arith));
+    }
 
 -- ---- Words that ask for nothing
 
@@ -337,6 +380,7 @@ nothing-asked : (a : Option Asked) (h h' : HostTold) (b b' : SinkTold) → Finds
 nothing-asked None h h' b b' ends = refl
 nothing-asked (Some (Compile model code)) h h' b b' ends = absurd ends.0
 nothing-asked (Some (Profile model)) h h' b b' ends = absurd ends.0
+nothing-asked (Some (Lustre model file)) h h' b b' ends = absurd ends.0
 nothing-asked _ h h' b b' ends = absurd ends
 
 unasked : (e : Ending) (h h' : HostTold) (b b' : SinkTold) → Finds e None h h' b b' → IsPlain (status_of e) → status_of e ≡ 2

@@ -5,7 +5,7 @@ use Rattle.base_host.specs.Fakes.{SureHostState}
 use Rattle.base_host.specs.Files.{File, lookup}
 use Rattle.diagram_meaning.specs.ResolvedTable.{ResolvedTable}
 use Rattle.tool_system_driver.specs.Words.{system_named}
-use Rattle.tool_words.specs.Words.{Asked, Compile, Run, Exec, Profile, Drive, Gen}
+use Rattle.tool_words.specs.Words.{Asked, Compile, Run, Exec, Profile, Drive, Gen, Lustre, Flow}
 use Rattle.tool_endings.specs.Completeness.{CanDrive, CanDo, first_file, second_file, IsSureOf}
 use Rattle.tool_ending_laws.specs.Laws.{told_files, has_file}
 
@@ -24,6 +24,8 @@ first-there (Exec code trace) fs can = is-there (lookup code fs) _ can
 first-there (Profile model) fs can = is-there (lookup model fs) _ can
 first-there (Drive model code word script) fs can = is-there (lookup model fs) _ can
 first-there (Gen start size model code) fs can = tt
+first-there (Lustre model file) fs can = is-there (lookup model fs) _ can
+first-there (Flow file trace) fs can = is-there (lookup file fs) _ can
 
 script-there : (r : ResolvedTable) (system : Option (Option ℕ)) (script : Option (List ℕ)) → CanDrive r system script →
     is_some script ≡ true
@@ -38,6 +40,8 @@ second-there (Profile model) fs can = tt
 second-there (Drive model code word script) fs can =
     inside (lookup model fs) can (λ bytes x. script-there x.0 (system_named x.0.table.rows word) (lookup script fs) x.2)
 second-there (Gen start size model code) fs can = tt
+second-there (Lustre model file) fs can = tt
+second-there (Flow file trace) fs can = inside (lookup file fs) can (λ bytes x. is-there (lookup trace fs) _ x.runs)
 
 pub sure-of : (h : SureHostState) (a : Asked) → CanDo a h.files → IsSureOf told_files has_file h a
 sure-of h a can = record { first = first-there a h.files can; second = by (second_file a) (second-there a h.files can) }

@@ -1,6 +1,6 @@
 -- What holds of each call of the tool that ended in some way.
 use Rattle.std.specs.Prelude.{◌≡◌, ◌≢◌, ℕ, Bool, List, Option, Some, None, is_some}
-use Rattle.base_host.specs.Faults.{Rose, IsCalm}
+use Rattle.base_host.specs.Faults.{IsCalm}
 use Rattle.base_host.specs.Fakes.{SureHostState}
 use Rattle.base_host.specs.Files.{File, lookup}
 use Rattle.tool_words.specs.Words.{Asked}
@@ -11,6 +11,7 @@ use Rattle.tool_endings.specs.Endings.{EndsAt, IsSaidOf, Puts}
 use Rattle.tool_endings.specs.Statuses.{TellsNoFault, IsExactly, Comes, ComesExactly, OnTold, IsDone}
 use Rattle.tool_endings.specs.Headline.{WritesNothing, DoesRight}
 use Rattle.tool_endings.specs.Completeness.{CanDo, IsComplete, IsSureOf, LacksOne}
+use Rattle.tool_endings.specs.Calls.{EachIsExact, CountsErrors, KeepsCounts}
 
 -- so it is with the status of each call, what was asked for, and what the host and the sink reported
 -- before it and after it
@@ -25,7 +26,8 @@ OnEach Holds =
 abbrev pub DoRight : Type 0
 DoRight = OnEach DoesRight
 
--- nothing is written by a command that only reads, or of a model that is refused
+-- nothing is written by a command that only reads, of a model that is refused, or of one with a delay
+-- that is too long for a file of Lustre
 abbrev pub NothingIsWritten : Type 0
 NothingIsWritten = OnEach (λ s a h h' b b'. WritesNothing s a → h'.written ≡ h.written)
 
@@ -39,15 +41,9 @@ UsageIsExact = OnEach (λ s a h h' b b'. IsExactly 2 s (a ≡ None))
 abbrev pub StatusesAreExact : Type 0
 StatusesAreExact = OnEach (λ s a h h' b b'. OnTold a h (ComesExactly s))
 
--- and it is n exactly where that comes to n
-abbrev pub IsExactAt : ℕ → Type 0
-IsExactAt n = OnEach (λ s a h h' b b'. OnTold a h (λ a fs. IsExactly n s (Comes a fs n)))
-
-pub record EachIsExact : Type 0 where
-  pub refused : IsExactAt 3
-  pub bad_line : IsExactAt 4
-  pub no_program : IsExactAt 8
-  pub stuck : IsExactAt 9
+-- and each that no error gives comes exactly where what is asked for comes to it
+abbrev pub EachComesExactly : Type 0
+EachComesExactly = OnEach (λ s a h h' b b'. EachIsExact s a h)
 
 -- status 5 is given only where the ending that was found is an error of reading
 abbrev pub FiveIsReadFault : Type 0
@@ -70,16 +66,12 @@ FiveIsNeeded = OnEach (λ s a h h' b b'. OnTold a h (λ a fs. s ≡ 5 → SureOf
 -- ---- Counts of errors
 
 -- a status that reports an error comes with one that was counted
-pub record FaultsAreCounted : Type 0 where
-  pub read : OnEach (λ s a h h' b b'. s ≡ 5 → Rose h.read_faults h'.read_faults)
-  pub write : OnEach (λ s a h h' b b'. s ≡ 6 → Rose h.write_faults h'.write_faults)
-  pub put : OnEach (λ s a h h' b b'. s ≡ 7 → Rose b.faults b'.faults)
+abbrev pub FaultsAreCounted : Type 0
+FaultsAreCounted = OnEach (λ s a h h' b b'. CountsErrors s h h' b b')
 
 -- and with one that reports none no count rose
 abbrev pub FaultlessIsCalm : Type 0
-FaultlessIsCalm = OnEach (λ s a h h' b b'. TellsNoFault s →
-    (h'.read_faults ≡ h.read_faults) × (h'.write_faults ≡ h.write_faults)
-    × (b'.faults ≡ b.faults))
+FaultlessIsCalm = OnEach (λ s a h h' b b'. TellsNoFault s → KeepsCounts h h' b b')
 
 -- ---- What can be done
 

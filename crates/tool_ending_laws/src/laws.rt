@@ -1,7 +1,8 @@
-ghost use Rattle.tool_ending_laws.specs.Laws.{AreComplete, DoRight, EachIsExact, FaultsAreCounted, FiveIsNeeded, FiveIsReadFault, NothingIsWritten, FaultlessIsCalm, StatusesAreExact, SureAreDone, SureHostsAreSure, UsageIsExact};
+ghost use Rattle.tool_ending_laws.specs.Laws.{AreComplete, DoRight, EachComesExactly, FaultsAreCounted, FiveIsNeeded, FiveIsReadFault, NothingIsWritten, FaultlessIsCalm, StatusesAreExact, SureAreDone, SureHostsAreSure, UsageIsExact};
 
 use c_reading_laws::readings_agree;
 use diagram_verdict::one_verdict;
+use lustre_reading_laws::texts_are_judged;
 use tool_system_driver::shapes_are_one;
 
 /// Where no count of errors rises, what a call does is right for what was asked for.
@@ -10,10 +11,12 @@ pub fn endings_do_right()
 {
     one_verdict();
     readings_agree();
+    texts_are_judged();
     shapes_are_one();
 }
 
-/// Whatever the status, commands that only read write nothing, and nor does any where the model is refused.
+/// Whatever the status, commands that only read write nothing, and nor does any where the model is refused, or has a delay that is
+/// too long for a file of Lustre.
 pub fn nothing_is_written()
     ensures { NothingIsWritten }
 {}
@@ -29,12 +32,13 @@ pub fn statuses_are_exact()
 {
     one_verdict();
     readings_agree();
+    texts_are_judged();
     shapes_are_one();
 }
 
-/// Status 3, 4, 8 and 9 each come exactly where what is asked for comes to it.
+/// Status 3, 4, 8, 9 and 11 each come exactly where what is asked for comes to it.
 pub fn each_status_is_exact()
-    ensures { EachIsExact }
+    ensures { EachComesExactly }
 {
     statuses_are_exact();
 }
@@ -50,6 +54,7 @@ pub fn five_is_needed()
 {
     one_verdict();
     readings_agree();
+    texts_are_judged();
 }
 
 /// Status 5, 6 and 7 come only with an error of reading, writing or printing that was counted.

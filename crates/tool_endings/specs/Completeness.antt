@@ -7,6 +7,9 @@ use Rattle.diagram_meaning.specs.ResolvedTable.{ResolvedTable, diagram_of_table}
 use Rattle.c_syntax.specs.Tree.{ProgramTree}
 use Rattle.c_rules.specs.Reading.{CText}
 use Rattle.diagram_verdict.specs.Verdict.{HasVerdict, Accepted}
+use Rattle.lustre_syntax.specs.Tree.{FileTree}
+use Rattle.lustre_flows.specs.Flows.{flows}
+use Rattle.lustre_right.specs.LongDelays.{long_delay}
 use Rattle.tool_compiled.specs.Compilation.{root_types}
 use Rattle.tool_endings.specs.declared.ending.Ending.{Ending}
 use Rattle.tool_endings.specs.declared.ending.Ending.TheVariants.{ReadFault}
@@ -15,10 +18,12 @@ use Rattle.tool_driver.specs.Shapes.{Shape}
 use Rattle.tool_system_driver.specs.SystemShapes.{IsShapeOf}
 use Rattle.tool_system_driver.specs.Words.{system_named}
 use Rattle.tool_script_runner.specs.ScriptEnds.{Whole, script_end}
-use Rattle.tool_words.specs.Words.{Asked, Compile, Run, Exec, Profile, Drive, Gen}
+use Rattle.tool_flow_runner.specs.FlowTraces.{flow_rows, flow_bad_line}
+use Rattle.tool_words.specs.Words.{Asked, Compile, Run, Exec, Profile, Drive, Gen, Lustre, Flow}
 use Rattle.tool_endings.specs.Told.{HostTold, SinkTold}
 use Rattle.tool_endings.specs.Runs.{HasStepTypes, rows_over, bad_line}
 use Rattle.tool_endings.specs.EndingsOfRuns.{code_limit}
+use Rattle.tool_endings.specs.EndingsOfFlows.{ReadsLustre}
 use Rattle.tool_endings.specs.Statuses.{Comes, OnTold, IsDone}
 use Rattle.tool_endings.specs.Headline.{Calm}
 
@@ -49,8 +54,19 @@ CanDrive r (Some system) script =
     (shape : Shape) × IsShapeOf r system shape
     × IsSomeAnd script (λ lines. script_end shape lines ≡ Whole)
 
--- with these files what is asked for can be done: the model is accepted, also one that is made, the
--- code runs, no line of the trace is bad, and the system is there and its script lawful
+-- no line of the trace is bad for the file, and no tick over it stuck
+pub record FlowsFreely (f : FileTree) (trace : List ℕ) : Type 0 where
+  pub good : flow_bad_line f trace ≡ None
+  pub free : (flows f (flow_rows f trace)).stuck_place ≡ None
+
+-- the file is not too long and has a reading, which flows freely over the trace
+pub record CanFlow (bytes : List ℕ) (trace : Option (List ℕ)) : Type 0 where
+  pub file : ReadsLustre bytes
+  pub runs : IsSomeAnd trace (λ lines. FlowsFreely file.tree lines)
+
+-- with these files what is asked for can be done: the model is accepted, also one that is made, and
+-- has no delay that is too long for a file of Lustre, the code or the file of Lustre runs, no line
+-- of the trace is bad, and the system is there and its script lawful
 abbrev pub CanDo : Asked → List File → Type 0
 CanDo (Compile model code) fs = IsSomeAnd (lookup model fs) (λ bytes. OnAccepted bytes (λ d. ⊤))
 CanDo (Run model code trace) fs =
@@ -66,6 +82,9 @@ CanDo (Drive model code word script) fs =
     (r : ResolvedTable) × HasVerdict bytes (Accepted r)
     × CanDrive r (system_named r.table.rows word) (lookup script fs))
 CanDo (Gen start size model code) fs = OnAccepted (model_text start size) (λ d. ⊤)
+CanDo (Lustre model file) fs =
+    IsSomeAnd (lookup model fs) (λ bytes. OnAccepted bytes (λ d. long_delay d ≡ None))
+CanDo (Flow file trace) fs = IsSomeAnd (lookup file fs) (λ bytes. CanFlow bytes (lookup trace fs))
 
 -- What can be done is done, unless memory runs out, where no count of errors rises or is at its
 -- greatest value.
@@ -82,6 +101,8 @@ first_file (Exec code trace) = Some code
 first_file (Profile model) = Some model
 first_file (Drive model code word script) = Some model
 first_file (Gen start size model code) = None
+first_file (Lustre model file) = Some model
+first_file (Flow file trace) = Some file
 
 abbrev pub second_file : Asked → Option (List ℕ)
 second_file (Compile model code) = None
@@ -90,6 +111,8 @@ second_file (Exec code trace) = Some trace
 second_file (Profile model) = None
 second_file (Drive model code word script) = Some script
 second_file (Gen start size model code) = None
+second_file (Lustre model file) = None
+second_file (Flow file trace) = Some trace
 
 -- the host is sure of the first file, and whatever it becomes with the files that it reports, of the
 -- second

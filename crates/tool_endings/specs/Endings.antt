@@ -5,20 +5,24 @@ use Rattle.base_refusals.specs.Refusals.{plain_refusal, refusal_line}
 use Rattle.base_host.specs.Faults.{Rose}
 use Rattle.base_host.specs.Files.{PutsFront}
 use Rattle.tool_endings.specs.declared.ending.Ending.{Ending}
-use Rattle.tool_endings.specs.declared.ending.Ending.TheVariants.{Compiled, Ran, Reported, Usage, Refused, BadTrace, BadScript, CodeRefused, CodeTooLong, Stuck as IsStuck, ReadFault, WriteFault, PutFault, NoMemory}
-use Rattle.tool_words.specs.Words.{Asked, Compile, Run, Exec, Profile, Drive, Gen}
-use Rattle.tool_endings.specs.Texts.{compiled_line, totals_line, usage_line, bad_line_line, script_stop_line, code_refused_line, long_code_line, stuck_line, read_fault_line, write_fault_line, no_memory_line}
+use Rattle.tool_endings.specs.declared.ending.Ending.TheVariants.{Compiled, Ran, Reported, Noded, Flowed, Usage, Refused, BadTrace, BadScript, CodeRefused, CodeTooLong, Stuck as IsStuck, LustreRefused, LustreTooLong, LustreLong, FlowStuck, ReadFault, WriteFault, PutFault, NoMemory}
+use Rattle.tool_words.specs.Words.{Asked, Compile, Run, Exec, Profile, Drive, Gen, Lustre, Flow}
+use Rattle.tool_endings.specs.Texts.{compiled_line, totals_line, nodes_line, ticks_line, usage_line, bad_line_line, script_stop_line, code_refused_line, long_code_line, stuck_line, lustre_refused_line, long_lustre_line, long_delay_line, flow_stuck_line, read_fault_line, write_fault_line, no_memory_line}
 use Rattle.tool_endings.specs.Told.{HostTold, SinkTold, ReadsNone, NoFault}
 use Rattle.tool_endings.specs.EndingsOfModels.{PutsNothing, EndsCompile, EndsProfiling}
 use Rattle.tool_endings.specs.EndingsOfRuns.{EndsRunning, EndsExecuting}
 use Rattle.tool_endings.specs.EndingsOfDriving.{EndsDriving}
 use Rattle.tool_endings.specs.EndingsOfGenerating.{EndsGenerating}
+use Rattle.tool_endings.specs.EndingsOfLustre.{EndsLustre}
+use Rattle.tool_endings.specs.EndingsOfFlows.{EndsFlowing}
 
 -- the status of an ending
 abbrev pub status_of : Ending → ℕ
 status_of (Compiled rows systems functions) = 0
 status_of (Ran totals) = 0
 status_of (Reported text) = 0
+status_of (Noded nodes) = 0
+status_of (Flowed ticks) = 0
 status_of Usage = 2
 status_of (Refused refusal) = 3
 status_of (BadTrace line) = 4
@@ -29,13 +33,19 @@ status_of PutFault = 7
 status_of (CodeRefused fault) = 8
 status_of CodeTooLong = 8
 status_of (IsStuck at) = 9
+status_of (FlowStuck at) = 9
 status_of NoMemory = 10
+status_of (LustreRefused fault) = 11
+status_of LustreTooLong = 11
+status_of (LustreLong place) = 11
 
 -- the text of an ending, after the lines that were printed before it
 abbrev pub text_of : Ending → List ℕ
 text_of (Compiled rows systems functions) = compiled_line rows systems functions
 text_of (Ran totals) = totals_line totals.ticks totals.steps totals.calls
 text_of (Reported text) = text.items
+text_of (Noded nodes) = nodes_line nodes
+text_of (Flowed ticks) = ticks_line ticks
 text_of Usage = usage_line
 text_of (Refused refusal) = refusal_line (plain_refusal refusal)
 text_of (BadTrace line) = bad_line_line line
@@ -46,7 +56,11 @@ text_of PutFault = []
 text_of (CodeRefused fault) = code_refused_line fault
 text_of CodeTooLong = long_code_line
 text_of (IsStuck at) = stuck_line at
+text_of (FlowStuck at) = flow_stuck_line at
 text_of NoMemory = no_memory_line
+text_of (LustreRefused fault) = lustre_refused_line fault
+text_of LustreTooLong = long_lustre_line
+text_of (LustreLong place) = long_delay_line place
 
 -- ---- All commands
 
@@ -73,6 +87,8 @@ Finds e (Some (Drive model code word script)) h h' b b' =
     EndsDriving e model code word script h h' b b'
 Finds e (Some (Gen start size model code)) h h' b b' =
     EndsGenerating e start size model code h h' b b'
+Finds e (Some (Lustre model file)) h h' b b' = EndsLustre e model file h h' × PutsNothing b b'
+Finds e (Some (Flow file trace)) h h' b b' = EndsFlowing e file trace h h' b b'
 
 -- an error of printing was counted where a line wasn't printed, and else none
 abbrev pub CountsPuts : Ending → SinkTold → SinkTold → Type 0

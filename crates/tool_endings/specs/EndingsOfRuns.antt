@@ -19,7 +19,7 @@ use Rattle.diagram_verdict.specs.Verdict.{HasVerdict, Accepted}
 use Rattle.emit_notes.specs.ModelNotes.{HasNotesOf}
 use Rattle.tool_compiled.specs.Compilation.{Compilation, root_types, IsCompilationOf}
 use Rattle.tool_endings.specs.declared.ending.Ending.{Ending}
-use Rattle.tool_endings.specs.declared.ending.Ending.TheVariants.{Ran, Refused, BadTrace, CodeRefused, CodeTooLong, Stuck as IsStuck, ReadFault, WriteFault, PutFault, NoMemory}
+use Rattle.tool_endings.specs.declared.ending.Ending.TheVariants.{Ran, Flowed, Refused, BadTrace, CodeRefused, CodeTooLong, Stuck as IsStuck, ReadFault, WriteFault, PutFault, NoMemory}
 use Rattle.tool_endings.specs.Told.{HostTold, SinkTold, ReadsAlone, NoFault}
 use Rattle.tool_endings.specs.Runs.{HasStepTypes, RunsTaken, RunsTo}
 use Rattle.tool_endings.specs.EndingsOfModels.{OnNamed, OnBytes, OpensNothing, PutsNothing, LeavesHost, EndsRefused, EndsReadFault, EndsWriteFault, EndsNoMemory}
@@ -29,6 +29,7 @@ use Rattle.tool_endings.specs.EndingsOfModels.{OnNamed, OnBytes, OpensNothing, P
 -- where a whole trace or script was run, nothing of it is left to read
 abbrev pub ReadsToEnd : Ending → HostTold → Type 0
 ReadsToEnd (Ran totals) h' = IsAtEnd h'.rest
+ReadsToEnd (Flowed ticks) h' = IsAtEnd h'.rest
 ReadsToEnd _ h' = ⊤
 
 -- so many bytes of files before it were read, and these of the trace of this name, and nothing else;

@@ -1,6 +1,7 @@
 -- What each command does where nothing fails.
 use Rattle.std.specs.Prelude.{◌≡◌, ◌≢◌, ◌⊎◌, ℕ, ◌<◌, ◌≤◌, List, ◌++◌, length, Option, Some, None, ⊤}
 use Rattle.std.specs.Io.KnownBytes.{append_known}
+use Rattle.base_core.specs.declared.base.Place.{Place}
 use Rattle.base_refusals.specs.Refusals.{PlainRefusal, refusal_line}
 use Rattle.base_fixed_point.specs.declared.types.FixType.{FixType}
 use Rattle.base_host.specs.Faults.{IsCalm}
@@ -14,6 +15,12 @@ use Rattle.c_semantics.specs.Cells.{Cells}
 use Rattle.c_semantics.specs.Machine.{After, done, stuck}
 use Rattle.c_semantics.specs.Rows.{TickRow, start_run}
 use Rattle.c_rules.specs.Reading.{CText, CFaultOf}
+use Rattle.lustre_syntax.specs.Tree.{FileTree}
+use Rattle.lustre_rules.specs.Reading.{LustreText, LustreFaultOf}
+use Rattle.lustre_flows.specs.declared.stuck.LusStuck.{LusStuck}
+use Rattle.lustre_flows.specs.Flows.{flows}
+use Rattle.lustre_right.specs.LongDelays.{long_delay}
+use Rattle.lustre_right.specs.Right.{IsRightText}
 use Rattle.right_claim.specs.Right.{GivesOutputs}
 use Rattle.diagram_verdict.specs.Verdict.{HasVerdict, Accepted, Refused}
 use Rattle.emit_notes.specs.ModelNotes.{HasNotesOf}
@@ -33,12 +40,13 @@ use Rattle.tool_script_runner.specs.Texts.{answers_text}
 use Rattle.tool_script_runner.specs.ScriptEnds.{ScriptEnd, Whole, AtLine, AtCall, script_end, lawful_calls}
 use Rattle.tool_script_runner.specs.FaultTexts.{bad_call_line, refused_call_line}
 use Rattle.tool_script_runner.specs.Drives.{AreAnswered}
-use Rattle.tool_words.specs.Words.{Asked, Compile, Run, Exec, Profile, Drive, Gen}
-use Rattle.tool_endings.specs.Texts.{compiled_line, totals_line, bad_line_line, no_subsystem_line, code_refused_line, long_code_line, stuck_line}
+use Rattle.tool_flow_runner.specs.FlowTraces.{flow_rows, flow_bad_line, flow_lines}
+use Rattle.tool_words.specs.Words.{Asked, Compile, Run, Exec, Profile, Drive, Gen, Lustre, Flow}
+use Rattle.tool_endings.specs.Texts.{compiled_line, totals_line, nodes_line, ticks_line, bad_line_line, no_subsystem_line, code_refused_line, long_code_line, stuck_line, lustre_refused_line, long_lustre_line, long_delay_line, flow_stuck_line}
 use Rattle.tool_endings.specs.Told.{HostTold, SinkTold}
 use Rattle.tool_endings.specs.Runs.{HasStepTypes, rows_in, rows_over, bad_line}
 use Rattle.tool_endings.specs.EndingsOfRuns.{code_limit}
-use Rattle.tool_endings.specs.Statuses.{IfFile, IsDone, run_status, status_over, status_at}
+use Rattle.tool_endings.specs.Statuses.{IfFile, IsDone, run_status, status_over, status_at, flow_status_over}
 
 -- no count of errors rises in the call, or is at its greatest value
 pub record Calm (h h' : HostTold) (b b' : SinkTold) : Type 0 where
@@ -245,6 +253,66 @@ pub record Makes (start size : ℕ) (s : ℕ) (model code : List ℕ) (h h' : Ho
   pub refused : (refusal : PlainRefusal) → HasVerdict (model_text start size) (Refused refusal) →
       TellsRefusal refusal s h h' b b'
 
+-- ---- `lustre`
+
+-- A right file of Lustre for the model is written as the one new file: its bytes have one reading,
+-- and that is right for the diagram, in all parts. The line with the number of its nodes is printed.
+pub record WritesRightLustre (r : ResolvedTable) (file : List ℕ) (h h' : HostTold)
+    (b b' : SinkTold) : Type 0 where
+  pub bytes : List ℕ
+  pub right : IsRightText bytes (diagram_of_table r)
+  pub written : h'.written ≡ add_file h.written file bytes
+  pub line : b'.bytes ≡ append_known b.bytes (nodes_line (length right.file.nodes))
+
+-- such a file is written, unless memory runs out
+pub record WritesShort (r : ResolvedTable) (s : ℕ) (file : List ℕ) (h h' : HostTold)
+    (b b' : SinkTold) : Type 0 where
+  pub status : IsDone s
+  pub done : s ≡ 0 → WritesRightLustre r file h h' b b'
+
+-- this delay is the first that is too long, and nothing is written, unless memory runs out
+pub record TellsLongDelay (place : Place) (s : ℕ) (h h' : HostTold) (b b' : SinkTold) : Type 0 where
+  pub tells : Tells 11 (long_delay_line place) s b b'
+  pub unwritten : s ≡ 11 → h'.written ≡ h.written
+
+-- a model that the rules accept is written as Lustre, if none of its delays is too long
+abbrev pub WritesAccepted : Option Place → ResolvedTable → ℕ → (file : List ℕ) → (h h' : HostTold)
+    (b b' : SinkTold) → Type 0
+WritesAccepted None r s file h h' b b' = WritesShort r s file h h' b b'
+WritesAccepted (Some place) r s file h h' b b' = TellsLongDelay place s h h' b b'
+
+-- what a call does with the bytes of its model
+pub record Translates (model : List ℕ) (s : ℕ) (file : List ℕ) (h h' : HostTold)
+    (b b' : SinkTold) : Type 0 where
+  pub accepted : (r : ResolvedTable) → HasVerdict model (Accepted r) →
+      WritesAccepted (long_delay (diagram_of_table r)) r s file h h' b b'
+  pub refused : (refusal : PlainRefusal) → HasVerdict model (Refused refusal) →
+      TellsRefusal refusal s h h' b b'
+
+-- ---- `flow`
+
+-- the last line of flows: where they are stuck, or the first bad line, or the number of ticks
+abbrev pub last_flow_line : ℕ → Option LusStuck → Option BadLine → List ℕ
+last_flow_line ticks (Some at) bad = flow_stuck_line at
+last_flow_line ticks None (Some line) = bad_line_line line
+last_flow_line ticks None None = ticks_line ticks
+
+-- what the flows of a file over a trace print: a line of outputs for each tick, and the last line
+abbrev pub flow_text : FileTree → List ℕ → List ℕ
+flow_text f trace =
+    let rows = flow_rows f trace in
+    flow_lines f rows
+    ++ last_flow_line (length rows) (flows f rows).stuck_place (flow_bad_line f trace)
+
+-- what a call does with the bytes of its file; it writes nothing
+pub record Flows (bytes trace : List ℕ) (s : ℕ) (h h' : HostTold) (b b' : SinkTold) : Type 0 where
+  pub unwritten : h'.written ≡ h.written
+  pub long : code_limit < length bytes → Tells 11 long_lustre_line s b b'
+  pub unread : length bytes ≤ code_limit → (fault : CFault) → LustreFaultOf bytes fault →
+      Tells 11 (lustre_refused_line fault) s b b'
+  pub runs : length bytes ≤ code_limit → (f : FileTree) → LustreText bytes f →
+      IfFile h trace (λ lines. Tells (flow_status_over f lines) (flow_text f lines) s b b')
+
 -- ---- All commands
 
 -- what is done with what is asked for, where the host reports the files that it names
@@ -260,21 +328,27 @@ Does s (Some (Profile model)) h h' b b' = IfFile h model (λ bytes. Profiles byt
 Does s (Some (Drive model code word script)) h h' b b' =
     IfFile h model (λ bytes. Drives bytes word script s code h h' b b')
 Does s (Some (Gen start size model code)) h h' b b' = Makes start size s model code h h' b b'
+Does s (Some (Lustre model file)) h h' b b' =
+    IfFile h model (λ bytes. Translates bytes s file h h' b b')
+Does s (Some (Flow file trace)) h h' b b' = IfFile h file (λ bytes. Flows bytes trace s h h' b b')
 
 -- the command writes no file, whatever comes of it
 abbrev pub IsReadOnly : Option Asked → Type 0
 IsReadOnly None = ⊤
 IsReadOnly (Some (Exec code trace)) = ⊤
 IsReadOnly (Some (Profile model)) = ⊤
+IsReadOnly (Some (Flow file trace)) = ⊤
 IsReadOnly _ = ⊥
 
--- with this status no file was written: by such a command, or since the model is refused
+-- with this status no file was written: by such a command, or since the model is refused, or has a
+-- delay that is too long for a file of Lustre
 abbrev pub WritesNothing : ℕ → Option Asked → Type 0
-WritesNothing s a = IsReadOnly a ⊎ (s ≡ 3)
+WritesNothing s a = IsReadOnly a ⊎ (s ≡ 3) ⊎ (s ≡ 11)
 
 -- Where no count of errors rises or is at its greatest value: right code is written for a model
 -- that the rules accept, and run by `run` and `gen` and driven by `drive`; nothing is written for
 -- one that they refuse; `exec` runs the code that it is given, and `profile` prints the report on a
--- model that they accept.
+-- model that they accept; `lustre` writes a right file of Lustre for one without long delays, and
+-- `flow` runs the flows of the file that it is given.
 abbrev pub DoesRight : ℕ → Option Asked → (h h' : HostTold) (b b' : SinkTold) → Type 0
 DoesRight s a h h' b b' = Calm h h' b b' → Does s a h h' b b'

@@ -6,8 +6,11 @@ pub mod EndingsOfRuns
 pub mod Scripts
 pub mod EndingsOfDriving
 pub mod EndingsOfGenerating
+pub mod EndingsOfLustre
+pub mod EndingsOfFlows
 pub mod Endings
 pub mod Statuses
 pub mod Headline
 pub mod Acting
 pub mod Completeness
+pub mod Calls

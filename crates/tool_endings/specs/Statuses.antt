@@ -1,5 +1,6 @@
 -- When each status comes.
 use Rattle.std.specs.Prelude.{◌≡◌, ◌≢◌, ◌⊎◌, ℕ, ◌<◌, ◌≤◌, List, length, Option, Some, None, IsSomeAnd, IfSome, OnSome}
+use Rattle.base_core.specs.declared.base.Place.{Place}
 use Rattle.base_refusals.specs.Refusals.{PlainRefusal}
 use Rattle.base_fixed_point.specs.declared.types.FixType.{FixType}
 use Rattle.base_host.specs.Files.{File, lookup}
@@ -13,16 +14,23 @@ use Rattle.c_semantics.specs.Machine.{Outcome, done, stuck}
 use Rattle.c_semantics.specs.Rows.{start_run}
 use Rattle.c_rules.specs.Reading.{CText, CFaultOf}
 use Rattle.diagram_verdict.specs.Verdict.{HasVerdict, Accepted, Refused}
+use Rattle.lustre_syntax.specs.Tree.{FileTree}
+use Rattle.lustre_rules.specs.Reading.{LustreFaultOf}
+use Rattle.lustre_flows.specs.declared.stuck.LusStuck.{LusStuck}
+use Rattle.lustre_flows.specs.Flows.{flows}
+use Rattle.lustre_right.specs.LongDelays.{long_delay}
 use Rattle.tool_compiled.specs.Compilation.{root_types}
 use Rattle.tool_generator.specs.Models.{model_text}
 use Rattle.tool_driver.specs.Shapes.{Shape}
 use Rattle.tool_system_driver.specs.SystemShapes.{IsShapeOf}
 use Rattle.tool_system_driver.specs.Words.{system_named}
 use Rattle.tool_script_runner.specs.ScriptEnds.{ScriptEnd, Whole, AtLine, AtCall, script_end}
-use Rattle.tool_words.specs.Words.{Asked, Compile, Run, Exec, Profile, Drive, Gen}
+use Rattle.tool_flow_runner.specs.FlowTraces.{flow_rows, flow_bad_line}
+use Rattle.tool_words.specs.Words.{Asked, Compile, Run, Exec, Profile, Drive, Gen, Lustre, Flow}
 use Rattle.tool_endings.specs.Told.{HostTold}
 use Rattle.tool_endings.specs.Runs.{HasStepTypes, rows_over, bad_line}
 use Rattle.tool_endings.specs.EndingsOfRuns.{code_limit}
+use Rattle.tool_endings.specs.EndingsOfFlows.{ReadsLustre}
 
 -- no status that an error or running out of memory gives
 pub record IsPlain (s : ℕ) : Type 0 where
@@ -97,6 +105,31 @@ DriveComes model word script n =
     ⊎ ((r : ResolvedTable) × HasVerdict model (Accepted r)
     × SystemComes r (system_named r.table.rows word) script n)
 
+-- the status of writing a model as Lustre, by its first delay that is too long
+abbrev pub lustre_status : Option Place → ℕ
+lustre_status (Some place) = 11
+lustre_status None = 0
+
+-- the status of flows, by the place where they are stuck and by the first bad line of their trace
+abbrev pub flow_status : Option LusStuck → Option BadLine → ℕ
+flow_status (Some at) bad = 9
+flow_status None (Some line) = 4
+flow_status None None = 0
+
+-- the status of the flows of a file over a trace
+abbrev pub flow_status_over : FileTree → List ℕ → ℕ
+flow_status_over f trace =
+    flow_status (flows f (flow_rows f trace)).stuck_place (flow_bad_line f trace)
+
+-- bytes that are too many or no text of a file of Lustre give status 11, and a file what its flows
+-- over the trace give
+abbrev pub FlowComes : List ℕ → Option (List ℕ) → ℕ → Type 0
+FlowComes bytes trace n =
+    ((code_limit < length bytes) × (n ≡ 11))
+    ⊎ ((length bytes ≤ code_limit) × ((fault : CFault) × LustreFaultOf bytes fault × (n ≡ 11)))
+    ⊎ ((file : ReadsLustre bytes)
+    × IsSomeAnd trace (λ lines. n ≡ flow_status_over file.tree lines))
+
 -- with these files, what is asked for comes to this status where nothing fails
 abbrev pub Comes : Asked → List File → ℕ → Type 0
 Comes (Compile model code) fs n =
@@ -110,6 +143,11 @@ Comes (Profile model) fs n = IsSomeAnd (lookup model fs) (λ bytes. ModelComes b
 Comes (Drive model code word script) fs n =
     IsSomeAnd (lookup model fs) (λ bytes. DriveComes bytes word (lookup script fs) n)
 Comes (Gen start size model code) fs n = ModelComes (model_text start size) n (λ d. n ≡ 0)
+Comes (Lustre model file) fs n =
+    IsSomeAnd (lookup model fs) (λ bytes. ModelComes bytes n (λ d.
+    n ≡ lustre_status (long_delay d)))
+Comes (Flow file trace) fs n =
+    IsSomeAnd (lookup file fs) (λ bytes. FlowComes bytes (lookup trace fs) n)
 
 -- except for errors and running out of memory, the status is n exactly where what is asked for comes to n
 pub record ComesExactly (s : ℕ) (a : Asked) (fs : List File) : Type 0 where

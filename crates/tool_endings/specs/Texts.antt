@@ -2,12 +2,16 @@
 use Rattle.std.specs.Prelude.{ℕ, List, [], ◌∷◌, ◌++◌, codes, decimal}
 use Rattle.base_core.specs.Bytes.{line_of_words}
 use Rattle.base_core.specs.Words.{at_line}
+use Rattle.base_core.specs.declared.base.Place.{Place}
 use Rattle.c_syntax.specs.declared.fault.CFault.{CFault}
 use Rattle.c_syntax.specs.declared.fault.CKind.{CKind}
 use Rattle.c_syntax.specs.declared.fault.CKind.TheVariants.{Syntax, Deep, Name, TypeRule}
 use Rattle.c_syntax.specs.declared.fault.Stuck.{Stuck}
 use Rattle.c_syntax.specs.declared.fault.Why.{Why}
 use Rattle.c_syntax.specs.declared.fault.Why.TheVariants.{Overflow, ZeroDivisor, Range, Steps, Index}
+use Rattle.lustre_flows.specs.declared.stuck.LusStuck.{LusStuck}
+use Rattle.lustre_flows.specs.declared.stuck.LusWhy.{LusWhy}
+use Rattle.lustre_flows.specs.declared.stuck.LusWhy.TheVariants as why
 use Rattle.tool_traces.specs.declared.rows.BadLine.{BadLine}
 use Rattle.tool_traces.specs.declared.rows.BadWhy.{BadWhy}
 use Rattle.tool_traces.specs.declared.rows.BadWhy.TheVariants as bad
@@ -27,10 +31,18 @@ totals_line ticks steps calls =
     codes "ticks " ++ decimal ticks ++ codes " steps " ++ decimal steps ++ codes " calls "
     ++ decimal calls ++ 10 ∷ []
 
+-- `lustre nodes N`
+abbrev pub nodes_line : ℕ → List ℕ
+nodes_line nodes = codes "lustre nodes " ++ decimal nodes ++ 10 ∷ []
+
+-- `ticks T`
+abbrev pub ticks_line : ℕ → List ℕ
+ticks_line ticks = codes "ticks " ++ decimal ticks ++ 10 ∷ []
+
 -- how each command is written
 abbrev pub usage_line : List ℕ
 usage_line =
-    codes "usage: mdlc compile MODEL CODE | run MODEL CODE TRACE | exec CODE TRACE | profile MODEL | drive MODEL CODE SUBSYSTEM SCRIPT | gen START SIZE MODEL CODE"
+    codes "usage: mdlc compile MODEL CODE | run MODEL CODE TRACE | exec CODE TRACE | profile MODEL | drive MODEL CODE SUBSYSTEM SCRIPT | gen START SIZE MODEL CODE | lustre MODEL FILE | flow FILE TRACE"
     ++ 10 ∷ []
 
 -- why a line of a trace is no row, with the number of fields or that of the field
@@ -51,13 +63,27 @@ kind_word Deep = codes "Deep"
 kind_word Name = codes "Name"
 kind_word TypeRule = codes "Type"
 
+-- a text that is refused, by what it should be, with the line and the word of its error
+abbrev pub refused_line : List ℕ → ℕ → List ℕ → List ℕ
+refused_line kind line word = line_of_words (kind ∷ codes "refused" ∷ at_line line (word ∷ []))
+
 -- bytes that are no program, and too many
 abbrev pub code_refused_line : CFault → List ℕ
-code_refused_line fault =
-    line_of_words (codes "code" ∷ codes "refused" ∷ at_line fault.line (kind_word fault.kind ∷ []))
+code_refused_line fault = refused_line (codes "code") fault.line (kind_word fault.kind)
 
 abbrev pub long_code_line : List ℕ
 long_code_line = codes "code refused TooLong" ++ 10 ∷ []
+
+-- bytes that are no file of Lustre, and too many
+abbrev pub lustre_refused_line : CFault → List ℕ
+lustre_refused_line fault = refused_line (codes "lustre") fault.line (kind_word fault.kind)
+
+abbrev pub long_lustre_line : List ℕ
+long_lustre_line = codes "lustre refused TooLong" ++ 10 ∷ []
+
+-- a delay that is too long for a file of Lustre
+abbrev pub long_delay_line : Place → List ℕ
+long_delay_line place = refused_line (codes "lustre") place.line (codes "LongDelay")
 
 abbrev pub stuck_word : Why → List ℕ
 stuck_word Overflow = codes "Overflow"
@@ -66,9 +92,22 @@ stuck_word Range = codes "Range"
 stuck_word Steps = codes "Steps"
 stuck_word Index = codes "Index"
 
--- where the machine is stuck
+abbrev pub flow_word : LusWhy → List ℕ
+flow_word why.Overflow = codes "Overflow"
+flow_word why.ZeroDivisor = codes "ZeroDivisor"
+flow_word why.Pre = codes "Pre"
+flow_word why.Cycle = codes "Cycle"
+
+-- a line where a run is stuck, with a word on why
+abbrev pub stuck_at : ℕ → List ℕ → List ℕ
+stuck_at line word = line_of_words (codes "stuck" ∷ at_line line (word ∷ []))
+
+-- where the machine is stuck, and where flows are
 abbrev pub stuck_line : Stuck → List ℕ
-stuck_line at = line_of_words (codes "stuck" ∷ at_line at.line (stuck_word at.why ∷ []))
+stuck_line at = stuck_at at.line (stuck_word at.why)
+
+abbrev pub flow_stuck_line : LusStuck → List ℕ
+flow_stuck_line at = stuck_at at.line (flow_word at.why)
 
 -- no system of the model has this name
 abbrev pub no_subsystem_line : List ℕ

@@ -1,5 +1,7 @@
+use base_core::Place;
 use base_refusals::Refusal;
 use c_syntax::{CFault, Stuck};
+use lustre_flows::LusStuck;
 use tool_runner::Totals;
 use tool_script_runner::RefusedCall;
 use tool_scripts::BadCall;
@@ -29,6 +31,10 @@ pub enum Ending {
     Ran(Totals),
     /// This is the report on a model.
     Reported(Vec<u8>),
+    /// A model was written as Lustre, in so many nodes.
+    Noded(usize),
+    /// The flows of a file of Lustre were run over a whole trace, in so many ticks.
+    Flowed(u64),
     /// The words are no command.
     Usage,
     /// The model is refused.
@@ -43,6 +49,14 @@ pub enum Ending {
     CodeTooLong,
     /// The code can't go on.
     Stuck(Stuck),
+    /// The file is no file of Lustre.
+    LustreRefused(CFault),
+    /// The file of Lustre has too many bytes.
+    LustreTooLong,
+    /// The model has a delay that is too long for a file of Lustre.
+    LustreLong(Place),
+    /// The flows can't go on.
+    FlowStuck(LusStuck),
     /// A file can't be read.
     ReadFault,
     /// A file can't be written whole.

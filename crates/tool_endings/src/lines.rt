@@ -4,14 +4,16 @@ ghost use Rattle.base_core.specs.Bytes.{line_of_words};
 ghost use Rattle.base_core.specs.Words.{at_line};
 ghost use Rattle.tool_endings.specs.Texts as text;
 
+use base_core::Place;
 use c_syntax::{CFault, CKind, Stuck, Why};
+use lustre_flows::{LusStuck, LusWhy};
 use std::alloc::{AllocError, Global};
 use tool_runner::Totals;
 use tool_traces::{BadLine, BadWhy};
 
 /// The usage line.
 pub const USAGE: &str =
-    "usage: mdlc compile MODEL CODE | run MODEL CODE TRACE | exec CODE TRACE | profile MODEL | drive MODEL CODE SUBSYSTEM SCRIPT | gen START SIZE MODEL CODE\n";
+    "usage: mdlc compile MODEL CODE | run MODEL CODE TRACE | exec CODE TRACE | profile MODEL | drive MODEL CODE SUBSYSTEM SCRIPT | gen START SIZE MODEL CODE | lustre MODEL FILE | flow FILE TRACE\n";
 
 /// The line of a compilation's counts.
 pub fn compiled_line(
@@ -36,6 +38,20 @@ pub fn totals_line(alloc: Global, totals: Totals) -> Result<String, AllocError>
         calls,
     } = totals;
     format!(in alloc; "ticks {ticks} steps {steps} calls {calls}\n")
+}
+
+/// The line of how many nodes a file of Lustre has.
+pub fn nodes_line(alloc: Global, nodes: usize) -> Result<String, AllocError>
+    ensures { IfOk result (λ line. string_bytes line ≡ text.nodes_line nodes) }
+{
+    format!(in alloc; "lustre nodes {nodes}\n")
+}
+
+/// The line of how many ticks flows had.
+pub fn ticks_line(alloc: Global, ticks: u64) -> Result<String, AllocError>
+    ensures { IfOk result (λ line. string_bytes line ≡ text.ticks_line ticks) }
+{
+    format!(in alloc; "ticks {ticks}\n")
 }
 
 // The line for a line of a trace, with a word on it.
@@ -68,17 +84,45 @@ pub fn bad_line_line(alloc: Global, bad: BadLine) -> Result<String, AllocError>
     }
 }
 
+// What is wrong with a text.
+fn kind_word(kind: CKind) -> &'static str
+    ensures { result.now ≡ text.kind_word kind }
+{
+    match kind {
+        CKind::Syntax => "Syntax",
+        CKind::Deep => "Deep",
+        CKind::Name => "Name",
+        CKind::TypeRule => "Type",
+    }
+}
+
+// The line for a text that is refused, by what it should be, with a word on why.
+fn refused_line(alloc: Global, kind: &str, line: u32, word: &str) -> Result<String, AllocError>
+    ensures { IfOk result (λ said. string_bytes said
+        ≡ text.refused_line kind.now line word.now) }
+{
+    format!(in alloc; "{kind} refused line {line} {word}\n")
+}
+
 /// The line for code that is no program.
 pub fn code_refused_line(alloc: Global, fault: CFault) -> Result<String, AllocError>
     ensures { IfOk result (λ line. string_bytes line ≡ text.code_refused_line fault) }
 {
-    let line = fault.line;
-    match fault.kind {
-        CKind::Syntax => format!(in alloc; "code refused line {line} Syntax\n"),
-        CKind::Deep => format!(in alloc; "code refused line {line} Deep\n"),
-        CKind::Name => format!(in alloc; "code refused line {line} Name\n"),
-        CKind::TypeRule => format!(in alloc; "code refused line {line} Type\n"),
-    }
+    refused_line(alloc, "code", fault.line, kind_word(fault.kind))
+}
+
+/// The line for a file that is no file of Lustre.
+pub fn lustre_refused_line(alloc: Global, fault: CFault) -> Result<String, AllocError>
+    ensures { IfOk result (λ line. string_bytes line ≡ text.lustre_refused_line fault) }
+{
+    refused_line(alloc, "lustre", fault.line, kind_word(fault.kind))
+}
+
+/// The line for a delay that is too long for a file of Lustre.
+pub fn long_delay_line(alloc: Global, place: Place) -> Result<String, AllocError>
+    ensures { IfOk result (λ line. string_bytes line ≡ text.long_delay_line place) }
+{
+    refused_line(alloc, "lustre", place.line, "LongDelay")
 }
 
 // Why the machine can't go on.
@@ -94,11 +138,35 @@ fn stuck_word(why: Why) -> &'static str
     }
 }
 
+// Why flows can't go on.
+fn flow_word(why: LusWhy) -> &'static str
+    ensures { result.now ≡ text.flow_word why }
+{
+    match why {
+        LusWhy::Overflow => "Overflow",
+        LusWhy::ZeroDivisor => "ZeroDivisor",
+        LusWhy::Pre => "Pre",
+        LusWhy::Cycle => "Cycle",
+    }
+}
+
+// The line for a place where a run is stuck, with a word on why.
+fn stuck_at(alloc: Global, line: u32, word: &str) -> Result<String, AllocError>
+    ensures { IfOk result (λ said. string_bytes said ≡ text.stuck_at line word.now) }
+{
+    format!(in alloc; "stuck line {line} {word}\n")
+}
+
 /// The line for code that can't go on.
 pub fn stuck_line(alloc: Global, at: Stuck) -> Result<String, AllocError>
     ensures { IfOk result (λ line. string_bytes line ≡ text.stuck_line at) }
 {
-    let line = at.line;
-    let word = stuck_word(at.why);
-    format!(in alloc; "stuck line {line} {word}\n")
+    stuck_at(alloc, at.line, stuck_word(at.why))
+}
+
+/// The line for flows that can't go on.
+pub fn flow_stuck_line(alloc: Global, at: LusStuck) -> Result<String, AllocError>
+    ensures { IfOk result (λ line. string_bytes line ≡ text.flow_stuck_line at) }
+{
+    stuck_at(alloc, at.line, flow_word(at.why))
 }

@@ -9,8 +9,8 @@ use base_host::{Failed, Sink, put_all};
 use base_refusals::refusal_text;
 use std::alloc::{AllocError, Global};
 use tool_endings::{
-    Ending, ScriptStop, USAGE, bad_line_line, code_refused_line, compiled_line, stuck_line,
-    totals_line,
+    Ending, ScriptStop, USAGE, bad_line_line, code_refused_line, compiled_line, flow_stuck_line,
+    long_delay_line, lustre_refused_line, nodes_line, stuck_line, ticks_line, totals_line,
 };
 use tool_script_runner::{bad_call_line, refused_call_line};
 
@@ -54,6 +54,8 @@ fn text(alloc: Global, ending: Ending) -> Result<Vec<u8>, Memory>
         } => line_bytes(compiled_line(alloc, rows, systems, functions)),
         Ending::Ran(totals) => line_bytes(totals_line(alloc, totals)),
         Ending::Reported(report) => Ok(report),
+        Ending::Noded(nodes) => line_bytes(nodes_line(alloc, nodes)),
+        Ending::Flowed(ticks) => line_bytes(ticks_line(alloc, ticks)),
         Ending::Usage => bytes_of(alloc, USAGE),
         Ending::Refused(refusal) => refusal_text(alloc, &refusal),
         Ending::BadTrace(bad) => line_bytes(bad_line_line(alloc, bad)),
@@ -61,6 +63,10 @@ fn text(alloc: Global, ending: Ending) -> Result<Vec<u8>, Memory>
         Ending::CodeRefused(fault) => line_bytes(code_refused_line(alloc, fault)),
         Ending::CodeTooLong => bytes_of(alloc, "code refused TooLong\n"),
         Ending::Stuck(at) => line_bytes(stuck_line(alloc, at)),
+        Ending::LustreRefused(fault) => line_bytes(lustre_refused_line(alloc, fault)),
+        Ending::LustreTooLong => bytes_of(alloc, "lustre refused TooLong\n"),
+        Ending::LustreLong(place) => line_bytes(long_delay_line(alloc, place)),
+        Ending::FlowStuck(at) => line_bytes(flow_stuck_line(alloc, at)),
         Ending::ReadFault => bytes_of(alloc, "read fault\n"),
         Ending::WriteFault => bytes_of(alloc, "write fault\n"),
         Ending::PutFault => bytes_of(alloc, ""),
@@ -73,7 +79,11 @@ fn status(ending: &Ending) -> u8
     ensures { result ≡ status_of ending.now }
 {
     match ending {
-        Ending::Compiled { .. } | Ending::Ran(_) | Ending::Reported(_) => 0,
+        Ending::Compiled { .. }
+        | Ending::Ran(_)
+        | Ending::Reported(_)
+        | Ending::Noded(_)
+        | Ending::Flowed(_) => 0,
         Ending::Usage => 2,
         Ending::Refused(_) => 3,
         Ending::BadTrace(_) | Ending::BadScript(_) => 4,
@@ -81,8 +91,9 @@ fn status(ending: &Ending) -> u8
         Ending::WriteFault => 6,
         Ending::PutFault => 7,
         Ending::CodeRefused(_) | Ending::CodeTooLong => 8,
-        Ending::Stuck(_) => 9,
+        Ending::Stuck(_) | Ending::FlowStuck(_) => 9,
         Ending::NoMemory => 10,
+        Ending::LustreRefused(_) | Ending::LustreTooLong | Ending::LustreLong(_) => 11,
     }
 }
 

@@ -14,14 +14,7 @@ use Rattle.tool_endings.specs.EndingsOfRuns.{ReadsToEnd, TakesFile, code_limit, 
 use Rattle.tool_endings.specs.Endings.{CountsPuts, Finds, Ends}
 use Rattle.tool_endings.specs.Acting.{NotStarted, StartsFrom, RunEnds}
 use Rattle.tool_endings.proofs.lemmas.Files.{there}
-use Rattle.tool_steps.proofs.lemmas.TwoFiles.{on-bytes, lost}
-
--- a host that was left as it was, twice
-left-twice : (h h1 h' : HostTold) → LeavesHost h h1 → LeavesHost h1 h' → LeavesHost h h'
-left-twice h h1 h' a b = record {
-  written = b.written ∙ a.written;
-  no_fault = record { read = b.no_fault.read ∙ a.no_fault.read; write = b.no_fault.write ∙ a.no_fault.write };
-}
+use Rattle.tool_steps.proofs.lemmas.TwoFiles.{left-twice, on-bytes, lost}
 
 -- the code of this name was read whole, and a machine of it has started
 pub record CodeRead (code bytes : List ℕ) (m : MachineState) (h h1 : HostTold) : Type 0 where

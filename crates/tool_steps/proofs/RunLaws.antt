@@ -1,8 +1,8 @@
 -- What a machine's run over a file comes to, of a machine after its start.
 use Rattle.std.proofs.Common.{◌≡◌, ℕ, inr, List, [], ◌∷◌, ◌++◌, sym, ap, subst, ◌∙◌, arith}
-use Rattle.std.specs.Prelude.{Option, Some, None, IfSome, Result, Ok, Err, ℤ, unwrap_or}
+use Rattle.std.specs.Prelude.{Option, Some, None, Result, Ok, Err, ℤ}
 use Rattle.std.specs.List.{AllZip}
-use Rattle.std.specs.Io.KnownBytes.{append_known, prepend_known, IsAtEnd}
+use Rattle.std.specs.Io.KnownBytes.{append_known, IsAtEnd}
 use Rattle.base_fixed_point.specs.declared.types.FixType.{FixType}
 use Rattle.base_host.specs.Faults.{Rose}
 use Rattle.base_host.specs.Files.{PutsFront}
@@ -22,10 +22,11 @@ use Rattle.tool_runner.specs.Runs.{no_totals, totals_of, added, ticks_over, RanW
 use Rattle.tool_endings.specs.declared.ending.Ending.TheVariants.{Ran, BadTrace, Stuck as IsStuck, PutFault}
 use Rattle.tool_endings.specs.Told.{HostTold, SinkTold, source_of}
 use Rattle.tool_endings.specs.Runs.{RunsWhole, RunsToBadLine, RunsToStuck, RunsToPutFault, RunsTaken}
-use Rattle.tool_endings.specs.EndingsOfModels.{OnNamed, OnBytes, LeavesHost}
+use Rattle.tool_endings.specs.EndingsOfModels.{OnNamed, LeavesHost}
 use Rattle.tool_endings.specs.EndingsOfRuns.{TakesFile}
 use Rattle.tool_endings.specs.Acting.{IsBehindStart, RunsFile, MissesFile, ForgetsFile}
 use Rattle.tool_endings.proofs.lemmas.Files.{there}
+use Rattle.tool_steps.proofs.lemmas.FileParts.{on-file}
 use Rattle.tool_steps.proofs.lemmas.SameSinks.{same-sink}
 
 -- types are no wider than themselves
@@ -38,27 +39,6 @@ same-rows : (m : MachineState) (totals : Totals) (put : Option (List ℕ)) (rows
     ticks_over (standing m totals put) rows ≡ c_rows (tree_of m) rows
 same-rows m totals put rows (after, start, fields) =
     ap (rows_from (tree_of m) rows) fields ∙ sym (ap (λ (o : Outcome). rows_of_start (tree_of m) o rows) start)
-
-some-bytes : (x y : List ℕ) → Some x ≡ Some y → x ≡ y
-some-bytes x y e = ap (λ (o : Option (List ℕ)). unwrap_or o x) e
-
--- what was taken of a file that is reported, and what is left of it, are its bytes
-both-parts : (rest rest' : Option (List ℕ)) (told : List ℕ) (parts : Parts) → rest ≡ Some told →
-    rest ≡ prepend_known parts.taken rest' → IfSome rest' (λ x. x ≡ parts.left) → told ≡ parts.taken ++ parts.left
-both-parts rest None told parts is took left =
-    let none : Some told ≡ None = sym is ∙ took in cc
-both-parts rest (Some x) told parts is took left =
-    some-bytes told (parts.taken ++ parts.left) (sym is ∙ took ∙ ap (λ (y : List ℕ). Some (parts.taken ++ y)) left)
-
--- what holds of the two parts of the bytes that were run holds of the file's
-pub on-file : (rest : Option (List ℕ)) (name : List ℕ) (h h' : HostTold) → OnNamed h name (λ bytes. rest ≡ Some bytes) →
-    (parts : Parts) (P : List ℕ → Type 0) → rest ≡ prepend_known parts.taken h'.rest → IfSome h'.rest (λ told. told ≡ parts.left) →
-    P (parts.taken ++ parts.left) → OnBytes h name P
-on-file rest name h h' opened parts P took left holds = record {
-  bytes = parts.taken ++ parts.left;
-  file = there h.files h.rest name opened (λ told is. both-parts rest h'.rest told parts is took left);
-  holds = holds;
-}
 
 same-totals : (t u : Totals) → t.ticks ≡ u.ticks → t.steps ≡ u.steps → t.calls ≡ u.calls → t ≡ u
 same-totals t u ticks steps calls = λ i. record { ticks = ticks i; steps = steps i; calls = calls i }

@@ -24,7 +24,7 @@ use Rattle.tool_endings.specs.EndingsOfModels.{OnNamed, LeavesHost}
 use Rattle.tool_endings.specs.EndingsOfDriving.{TakesScript}
 use Rattle.tool_endings.specs.Acting.{DrivesFile, MissesScript}
 use Rattle.tool_endings.proofs.lemmas.Files.{there}
-use Rattle.tool_steps.proofs.RunLaws.{on-file}
+use Rattle.tool_steps.proofs.lemmas.FileParts.{on-file}
 
 module _ (law : ScriptsAreDriven) (w : Driven) (d d' : DriverState) (taken : Totals) (rest : Option (List ℕ)) (now : ℕ)
     (name : List ℕ) (h h' : HostTold) (b b' : SinkTold) (stands : StandsFor w d [])

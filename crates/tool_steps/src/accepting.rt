@@ -7,7 +7,7 @@ ghost use Rattle.diagram_verdict.specs.Faults.{IsFaultOf};
 use base_host::{Host, ReadAllFault, read_all};
 use base_refusals::Refusal;
 use diagram_meaning::Resolved;
-use diagram_verdict::{ModelFault, accept_model};
+use diagram_verdict::{ModelFault, accept_sections, read_file};
 use emit_notes::{Labels, labels_of};
 use std::alloc::Global;
 use tool_endings::Ending;
@@ -29,8 +29,9 @@ fn accept_text(alloc: Global, text: &[u8]) -> Result<AcceptedFile, ModelFault>
     ensures accepted { IfOk result (λ f. IsAcceptedText (table_of_tree f.resolved) f.labels text.now) }
     ensures refused { IfErr result (IsFaultOf text.now) }
 {
-    let resolved = accept_model(alloc, text)?;
-    let labels = labels_of(alloc, text)?;
+    let file = read_file(alloc, text)?;
+    let resolved = accept_sections(alloc, &file)?;
+    let labels = labels_of(alloc, &file)?;
     Ok(AcceptedFile { resolved, labels })
 }
 

@@ -74,11 +74,17 @@ abbrev pub gen : Shape
 gen = shape (codes "gen") (argument_at 1 (codes "START") ∷ argument_at 2 (codes "SIZE") ∷ argument_at 3 (codes "MODEL")
     ∷ argument_at 4 (codes "CODE") ∷ []) true
 
+abbrev pub lustre : Shape
+lustre = shape (codes "lustre") (argument_at 1 (codes "MODEL") ∷ argument_at 2 (codes "FILE") ∷ []) true
+
+abbrev pub flow : Shape
+flow = shape (codes "flow") (argument_at 1 (codes "FILE") ∷ argument_at 2 (codes "TRACE") ∷ []) true
+
 abbrev pub top : Shape
 top = record (shape (codes "mdlc") [] false) { subcommand_required = true }
 
 abbrev pub ready : App
-ready = record { top = top; subs = compile ∷ run ∷ exec ∷ profile ∷ drive ∷ gen ∷ [] }
+ready = record { top = top; subs = compile ∷ run ∷ exec ∷ profile ∷ drive ∷ gen ∷ lustre ∷ flow ∷ [] }
 
 is_ready : built program ≡ ready
 is_ready = refl
@@ -159,3 +165,11 @@ meets_drive = record { walk = refl; turn = refl; found = refl }
 pub meets_gen : Meets (codes "gen") gen
 unfolding clap_on_literals
 meets_gen = record { walk = refl; turn = refl; found = refl }
+
+pub meets_lustre : Meets (codes "lustre") lustre
+unfolding clap_on_literals
+meets_lustre = record { walk = refl; turn = refl; found = refl }
+
+pub meets_flow : Meets (codes "flow") flow
+unfolding clap_on_literals
+meets_flow = record { walk = refl; turn = refl; found = refl }

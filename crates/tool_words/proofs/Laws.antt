@@ -9,9 +9,9 @@ use Rattle.clap.specs.Walk.{Held, Row, nothing_held}
 use Rattle.clap.specs.Words.{Text, subcommand_of, takes}
 use Rattle.clap.specs.declared.builder.value_parser.ValueParser.TheVariants as vp
 use Rattle.clap.specs.declared.parser.matches.ValueSource.TheVariants.{CommandLine}
-use Rattle.tool_words.specs.Words.{Asked, Compile, Run, Exec, Profile, Drive, is_word, differ, number_up_to, greatest_start, greatest_size, gen_by, with_one, with_two, with_three, with_four, command_with, asked_by}
+use Rattle.tool_words.specs.Words.{Asked, Compile, Run, Exec, Profile, Drive, Lustre, Flow, is_word, differ, number_up_to, greatest_start, greatest_size, gen_by, with_one, with_two, with_three, with_four, command_with, asked_by}
 use Rattle.tool_words.specs.Program.{program, asked_in}
-use Rattle.tool_words.proofs.Entered.{compile, run, exec, profile, drive, gen, meets_compile, meets_run, meets_exec, meets_profile, meets_drive, meets_gen, meets_takes, meets_rows}
+use Rattle.tool_words.proofs.Entered.{compile, run, exec, profile, drive, gen, lustre, flow, meets_compile, meets_run, meets_exec, meets_profile, meets_drive, meets_gen, meets_lustre, meets_flow, meets_takes, meets_rows}
 use Rattle.tool_words.proofs.Steps.{Goes, goes_level, goes_rows}
 
 -- `clap` takes the words, and its matches ask for this
@@ -35,6 +35,30 @@ serves_compile model code m c =
       meets_takes (codes "compile") compile meets_compile words (goes_level compile words second goes refl),
       ap asked_in (meets_rows (codes "compile") compile meets_compile words)
           ∙ ap (λ rows. asked_in (Some (codes "compile", rows))) (goes_rows compile words second goes),
+    )
+
+serves_lustre : (model file : Text) → is_word model ≡ true → is_word file ≡ true
+    → Serves (codes "lustre" ∷ model ∷ file ∷ []) (Some (Lustre model file))
+serves_lustre model file m f =
+    let words = model ∷ file ∷ [] in
+    let first = held [] (codes "MODEL") model in
+    let second = held (row (codes "MODEL") model ∷ []) (codes "FILE") file in
+    let goes : Goes lustre nothing_held 1 words second = (first, m, refl, refl, (second, f, refl, refl, refl)) in (
+      meets_takes (codes "lustre") lustre meets_lustre words (goes_level lustre words second goes refl),
+      ap asked_in (meets_rows (codes "lustre") lustre meets_lustre words)
+          ∙ ap (λ rows. asked_in (Some (codes "lustre", rows))) (goes_rows lustre words second goes),
+    )
+
+serves_flow : (file trace : Text) → is_word file ≡ true → is_word trace ≡ true
+    → Serves (codes "flow" ∷ file ∷ trace ∷ []) (Some (Flow file trace))
+serves_flow file trace f t =
+    let words = file ∷ trace ∷ [] in
+    let first = held [] (codes "FILE") file in
+    let second = held (row (codes "FILE") file ∷ []) (codes "TRACE") trace in
+    let goes : Goes flow nothing_held 1 words second = (first, f, refl, refl, (second, t, refl, refl, refl)) in (
+      meets_takes (codes "flow") flow meets_flow words (goes_level flow words second goes refl),
+      ap asked_in (meets_rows (codes "flow") flow meets_flow words)
+          ∙ ap (λ rows. asked_in (Some (codes "flow", rows))) (goes_rows flow words second goes),
     )
 
 serves_run : (model code trace : Text) → is_word model ≡ true → is_word code ≡ true → is_word trace ≡ true
@@ -141,7 +165,12 @@ two_words command a b x y =
     choose (command ∷ a ∷ b ∷ []) (bytes_eq command (codes "compile") && differ b a) _ _
     (λ e. named (codes "compile") command (a ∷ b ∷ []) _ (serves_compile a b x y) (first_of_both _ (differ b a) e))
     (choose (command ∷ a ∷ b ∷ []) (bytes_eq command (codes "exec")) _ _
-    (named (codes "exec") command (a ∷ b ∷ []) _ (serves_exec a b x y)) (asks_nothing (command ∷ a ∷ b ∷ [])))
+    (named (codes "exec") command (a ∷ b ∷ []) _ (serves_exec a b x y))
+    (choose (command ∷ a ∷ b ∷ []) (bytes_eq command (codes "lustre") && differ b a) _ _
+    (λ e. named (codes "lustre") command (a ∷ b ∷ []) _ (serves_lustre a b x y) (first_of_both _ (differ b a) e))
+    (choose (command ∷ a ∷ b ∷ []) (bytes_eq command (codes "flow") && differ b a) _ _
+    (λ e. named (codes "flow") command (a ∷ b ∷ []) _ (serves_flow a b x y) (first_of_both _ (differ b a) e))
+    (asks_nothing (command ∷ a ∷ b ∷ [])))))
 
 three_words : (command a b c : Text) → is_word a ≡ true → is_word b ≡ true → is_word c ≡ true
     → Right (command ∷ a ∷ b ∷ c ∷ []) (with_three command a b c)

@@ -3,7 +3,7 @@ use Rattle.std.specs.Prelude.{◌≡◌, true, false, if◌then◌else◌, List,
 use Rattle.clap.specs.Words.{App, Row, Rule, Shape, Text, first_of, new_app, new_rule, shape_of, with_subcommand}
 use Rattle.clap.specs.declared.builder.command.Command.{Command}
 use Rattle.clap.specs.declared.builder.command.Command.TheViews.{out-Command as fields_of}
-use Rattle.tool_words.specs.Words.{Asked, Compile, Run, Exec, Profile, Drive, number_up_to, greatest_start, greatest_size, gen_by}
+use Rattle.tool_words.specs.Words.{Asked, Compile, Run, Exec, Profile, Drive, Lustre, Flow, number_up_to, greatest_start, greatest_size, gen_by}
 use denote.Ref.{Bor}
 
 -- an argument by its place, which has to be there
@@ -33,6 +33,12 @@ drive = with_arguments (codes "drive")
 abbrev pub gen : Shape
 gen =
     with_arguments (codes "gen") (codes "START" ∷ codes "SIZE" ∷ codes "MODEL" ∷ codes "CODE" ∷ [])
+
+abbrev pub lustre : Shape
+lustre = with_arguments (codes "lustre") (codes "MODEL" ∷ codes "FILE" ∷ [])
+
+abbrev pub flow : Shape
+flow = with_arguments (codes "flow") (codes "FILE" ∷ codes "TRACE" ∷ [])
 
 -- the program without its commands
 abbrev pub bare : App
@@ -64,7 +70,7 @@ command_texts command = (command.0.now, texts command.1.now)
 abbrev pub program : App
 program = record {
   top = record bare.top { is_leaf = false };
-  subs = compile ∷ run ∷ exec ∷ profile ∷ drive ∷ gen ∷ [];
+  subs = compile ∷ run ∷ exec ∷ profile ∷ drive ∷ gen ∷ lustre ∷ flow ∷ [];
 }
 
 -- a command of this shape, which has no argument for its subcommands
@@ -109,6 +115,16 @@ gen_of (Some start) None _ _ = None
 gen_of (Some start) (Some size) None _ = None
 gen_of (Some start) (Some size) (Some model) None = None
 
+abbrev pub lustre_of : Option Text → Option Text → Option Asked
+lustre_of (Some model) (Some file) = Some (Lustre model file)
+lustre_of None _ = None
+lustre_of (Some model) None = None
+
+abbrev pub flow_of : Option Text → Option Text → Option Asked
+flow_of (Some file) (Some trace) = Some (Flow file trace)
+flow_of None _ = None
+flow_of (Some file) None = None
+
 -- what a command of this name asks for, with the values of its arguments
 abbrev pub asked_of : Text → (Text → Option Text) → Option Asked
 asked_of name value =
@@ -124,6 +140,9 @@ asked_of name value =
     else if bytes_eq name (codes "gen")
     then gen_of (value (codes "START")) (value (codes "SIZE")) (value (codes "MODEL"))
     (value (codes "CODE"))
+    else if bytes_eq name (codes "lustre")
+    then lustre_of (value (codes "MODEL")) (value (codes "FILE"))
+    else if bytes_eq name (codes "flow") then flow_of (value (codes "FILE")) (value (codes "TRACE"))
     else None
 
 -- what the subcommand that was met asks for

@@ -2,7 +2,7 @@
 use Rattle.std.specs.Prelude.{◌≡◌, refl, true, false, [], ◌∷◌, Some, None, codes}
 use Rattle.clap.specs.Words.{subcommand_of, takes}
 use Rattle.clap.proofs.OnLiterals.{clap_on_literals}
-use Rattle.tool_words.specs.Words.{Compile, Run, Exec, Profile, Drive, Gen}
+use Rattle.tool_words.specs.Words.{Compile, Run, Exec, Profile, Drive, Gen, Lustre, Flow}
 use Rattle.tool_words.specs.Program.{program, asked_in}
 
 takes-compile : takes program (codes "compile" ∷ codes "a" ∷ codes "b" ∷ []) ≡ true
@@ -47,11 +47,25 @@ asked-gen : asked_in
 unfolding clap_on_literals
 asked-gen = refl
 
+asked-lustre : asked_in (subcommand_of program (codes "lustre" ∷ codes "a" ∷ codes "b" ∷ []))
+    ≡ Some (Lustre (codes "a") (codes "b"))
+unfolding clap_on_literals
+asked-lustre = refl
+
+asked-flow : asked_in (subcommand_of program (codes "flow" ∷ codes "lustre" ∷ codes "a" ∷ []))
+    ≡ Some (Flow (codes "lustre") (codes "a"))
+unfolding clap_on_literals
+asked-flow = refl
+
 -- `clap` takes some words that are not lawful
 
 takes-same : takes program (codes "compile" ∷ codes "a" ∷ codes "a" ∷ []) ≡ true
 unfolding clap_on_literals
 takes-same = refl
+
+takes-flow_same : takes program (codes "flow" ∷ codes "a" ∷ codes "a" ∷ []) ≡ true
+unfolding clap_on_literals
+takes-flow_same = refl
 
 takes-empty : takes program (codes "exec" ∷ [] ∷ codes "a" ∷ []) ≡ true
 unfolding clap_on_literals

@@ -24,6 +24,8 @@ pub data Asked : Type 0 where
   Profile : (model : List ℕ) → Asked
   Drive : (model code subsystem script : List ℕ) → Asked
   Gen : (start size : ℕ) (model code : List ℕ) → Asked
+  Lustre : (model file : List ℕ) → Asked
+  Flow : (file trace : List ℕ) → Asked
 
 -- ---- Numbers
 
@@ -56,8 +58,8 @@ gen_by (Some start) (Some size) model code = Some (Gen start size model code)
 gen_by None _ model code = None
 gen_by (Some start) None model code = None
 
--- what a command asks for by its number of further words; the code that is written is no other file
--- that is named
+-- what a command asks for by its number of further words; the file that is written is no other one
+-- that is named, and a file of Lustre is no trace of its own
 abbrev pub with_one : List ℕ → (model : List ℕ) → Option Asked
 with_one command model = if bytes_eq command (codes "profile") then Some (Profile model) else None
 
@@ -65,6 +67,9 @@ abbrev pub with_two : List ℕ → (first second : List ℕ) → Option Asked
 with_two command first second =
     if bytes_eq command (codes "compile") && differ second first then Some (Compile first second)
     else if bytes_eq command (codes "exec") then Some (Exec first second)
+    else if bytes_eq command (codes "lustre") && differ second first
+    then Some (Lustre first second)
+    else if bytes_eq command (codes "flow") && differ second first then Some (Flow first second)
     else None
 
 abbrev pub with_three : List ℕ → (model code trace : List ℕ) → Option Asked
@@ -105,6 +110,8 @@ asked (command.Profile model) = Profile model.now
 asked (command.Drive model code subsystem script) =
     Drive model.now code.now subsystem.now script.now
 asked (command.Gen start size model code) = Gen start size model.now code.now
+asked (command.Lustre model file) = Lustre model.now file.now
+asked (command.Flow file trace) = Flow file.now trace.now
 
 -- the numbers of a command are in their ranges
 abbrev pub HasBounds : Command → Type 0

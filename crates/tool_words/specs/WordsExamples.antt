@@ -1,6 +1,6 @@
 -- Words of command lines.
 use Rattle.std.specs.Prelude.{◌≡◌, refl, List, ℕ, [], ◌∷◌, Option, Some, None, codes}
-use Rattle.tool_words.specs.Words.{Asked, asked_by, number_up_to, greatest_start, greatest_size, Compile, Run, Exec, Profile, Drive, Gen}
+use Rattle.tool_words.specs.Words.{Asked, asked_by, number_up_to, greatest_start, greatest_size, Compile, Run, Exec, Profile, Drive, Gen, Lustre, Flow}
 
 words-none : asked_by [] ≡ None
 words-none = refl
@@ -165,6 +165,36 @@ words-gen_short = refl
 words-gen_long : asked_by (codes "gen" ∷ codes "1" ∷ codes "1" ∷ codes "a" ∷ codes "b" ∷ codes "c"
     ∷ []) ≡ None
 words-gen_long = refl
+
+words-lustre : asked_by (codes "lustre" ∷ codes "a" ∷ codes "b" ∷ [])
+    ≡ Some (Lustre (codes "a") (codes "b"))
+words-lustre = refl
+
+words-lustre_same : asked_by (codes "lustre" ∷ codes "a" ∷ codes "a" ∷ []) ≡ None
+words-lustre_same = refl
+
+words-lustre_short : asked_by (codes "lustre" ∷ codes "a" ∷ []) ≡ None
+words-lustre_short = refl
+
+words-lustre_long : asked_by (codes "lustre" ∷ codes "a" ∷ codes "b" ∷ codes "c" ∷ []) ≡ None
+words-lustre_long = refl
+
+words-flow : asked_by (codes "flow" ∷ codes "a" ∷ codes "b" ∷ [])
+    ≡ Some (Flow (codes "a") (codes "b"))
+words-flow = refl
+
+words-flow_named_so : asked_by (codes "flow" ∷ codes "lustre" ∷ codes "flow" ∷ [])
+    ≡ Some (Flow (codes "lustre") (codes "flow"))
+words-flow_named_so = refl
+
+words-flow_same : asked_by (codes "flow" ∷ codes "a" ∷ codes "a" ∷ []) ≡ None
+words-flow_same = refl
+
+words-flow_dash : asked_by (codes "flow" ∷ codes "a" ∷ codes "-b" ∷ []) ≡ None
+words-flow_dash = refl
+
+words-flows : asked_by (codes "flows" ∷ codes "a" ∷ codes "b" ∷ []) ≡ None
+words-flows = refl
 
 -- ---- Numbers
 

@@ -37,4 +37,14 @@ pub enum Command<'a> {
         model: &'a str,
         code: &'a str,
     },
+    /// Writes the file `model` as Lustre into the file `file`.
+    Lustre {
+        model: &'a str,
+        file: &'a str,
+    },
+    /// Runs the flows of the file `file` of Lustre over the file `trace`.
+    Flow {
+        file: &'a str,
+        trace: &'a str,
+    },
 }

@@ -18,7 +18,10 @@ fn is_word(word: &str) -> bool
 fn takes_two(command: &str, first: &str, second: &str) -> bool
     ensures { result ≡ is_some (with_two command.now first.now second.now) }
 {
-    (command == "compile" && second != first) || command == "exec"
+    (command == "compile" && second != first)
+        || command == "exec"
+        || (command == "lustre" && second != first)
+        || (command == "flow" && second != first)
 }
 
 // Whether a command takes these three words.
@@ -67,7 +70,8 @@ fn are_words(words: &[String]) -> bool
 }
 
 /// Whether the words ask for something: they are a command with just its further words, each with a first byte that is no
-/// `-`, the code to write is another file than those that are named beside it, and numbers are in their ranges.
+/// `-`, the file to write is another than those that are named beside it, a file of Lustre is another than its trace, and numbers
+/// are in their ranges.
 pub fn is_lawful(words: &[String]) -> bool
     ensures { result ≡ is_some (asked_by (word_bytes words.now)) }
 {

@@ -1,7 +1,7 @@
 ghost use Rattle.std.specs.Prelude.{◌≡◌, IfSome, option_map, codes};
 ghost use Rattle.clap.specs.Words.{first_value, found_of, subcommand_rows_of};
 ghost use Rattle.tool_words.specs.Words.{HasBounds, asked};
-ghost use Rattle.tool_words.specs.Program.{compile_of, run_of, exec_of, profile_of, drive_of, gen_of, asked_of, asked_in};
+ghost use Rattle.tool_words.specs.Program.{compile_of, run_of, exec_of, profile_of, drive_of, gen_of, lustre_of, flow_of, asked_of, asked_in};
 
 use crate::Command;
 use crate::numbers::{size_of, start_of};
@@ -83,6 +83,24 @@ fn generate<'a>(values: &ArgMatches<'a>) -> Option<Command<'a>>
     })
 }
 
+fn lustre<'a>(values: &ArgMatches<'a>) -> Option<Command<'a>>
+    ensures { let value = first_value (found_of values.now) in
+        option_map asked result ≡ lustre_of (value (codes "MODEL")) (value (codes "FILE")) }
+{
+    let model = values.get_str("MODEL")?;
+    let file = values.get_str("FILE")?;
+    Some(Command::Lustre { model, file })
+}
+
+fn flow<'a>(values: &ArgMatches<'a>) -> Option<Command<'a>>
+    ensures { let value = first_value (found_of values.now) in
+        option_map asked result ≡ flow_of (value (codes "FILE")) (value (codes "TRACE")) }
+{
+    let file = values.get_str("FILE")?;
+    let trace = values.get_str("TRACE")?;
+    Some(Command::Flow { file, trace })
+}
+
 // What a command of this name asks for, if it has all its values.
 fn asked_of<'a>(name: &str, values: &ArgMatches<'a>) -> Option<Command<'a>>
     ensures asked { option_map asked result
@@ -96,6 +114,8 @@ fn asked_of<'a>(name: &str, values: &ArgMatches<'a>) -> Option<Command<'a>>
         "profile" => profile(values),
         "drive" => drive(values),
         "gen" => generate(values),
+        "lustre" => lustre(values),
+        "flow" => flow(values),
         _ => None,
     }
 }

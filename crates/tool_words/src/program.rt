@@ -7,13 +7,15 @@ use clap::{Arg, Command};
 use std::alloc::{AllocError, Global};
 
 // The commands by their names, each with the names of its arguments.
-const COMMANDS: [(&str, &[&str]); 6] = [
+const COMMANDS: [(&str, &[&str]); 8] = [
     ("compile", &["MODEL", "CODE"]),
     ("run", &["MODEL", "CODE", "TRACE"]),
     ("exec", &["CODE", "TRACE"]),
     ("profile", &["MODEL"]),
     ("drive", &["MODEL", "CODE", "SUBSYSTEM", "SCRIPT"]),
     ("gen", &["START", "SIZE", "MODEL", "CODE"]),
+    ("lustre", &["MODEL", "FILE"]),
+    ("flow", &["FILE", "TRACE"]),
 ];
 
 // An argument by its place, which has to be there.

@@ -24,7 +24,8 @@ fn parsed<'a>(alloc: Global, words: &'a [String]) -> Result<ArgMatches<'a>, Erro
 }
 
 /// What the words ask for, with the numbers in their ranges. None exactly where they are no command with just its further
-/// words, each with a first byte that is no `-`, and the code to write another file than those that are named beside it.
+/// words, each with a first byte that is no `-`, the file to write another than those that are named beside it, and a file of
+/// Lustre another than its trace.
 ///
 /// # Errors
 /// Words that ask for something are parsed, for which memory may run out.

@@ -176,7 +176,7 @@ fn large_models(rt: HostRuntime) -> Result<(), Fail> {
 }
 
 const USAGE: &str =
-    "usage: mdlc compile MODEL CODE | run MODEL CODE TRACE | exec CODE TRACE | profile MODEL | drive MODEL CODE SUBSYSTEM SCRIPT | gen START SIZE MODEL CODE\n";
+    "usage: mdlc compile MODEL CODE | run MODEL CODE TRACE | exec CODE TRACE | profile MODEL | drive MODEL CODE SUBSYSTEM SCRIPT | gen START SIZE MODEL CODE | lustre MODEL FILE | flow FILE TRACE\n";
 
 /// Words that ask for nothing.
 const NOTHING: &[&str] = &[

@@ -1,5 +1,5 @@
 -- Two files of a host, one read after the other.
-use Rattle.std.proofs.Common.{◌≡◌, ℕ, ◌+◌, ◌⊎◌, inl, inr, List, [], length, subst, arith}
+use Rattle.std.proofs.Common.{◌≡◌, ℕ, ◌+◌, ◌⊎◌, inl, inr, List, [], length, subst, ◌∙◌, arith}
 use Rattle.std.specs.Prelude.{Option, Some, None, IsSomeAnd}
 use Rattle.std.specs.Io.KnownBytes.{prepend_known}
 use Rattle.base_fixed_point.specs.declared.types.FixType.{FixType}
@@ -8,7 +8,7 @@ use Rattle.base_host.specs.Reading.{RoseBy}
 use Rattle.c_syntax.specs.Tree.{ProgramTree}
 use Rattle.tool_endings.specs.Told.{HostTold, SinkTold}
 use Rattle.tool_endings.specs.Runs.{RunsTaken}
-use Rattle.tool_endings.specs.EndingsOfModels.{OnNamed, OnBytes, OpensNothing}
+use Rattle.tool_endings.specs.EndingsOfModels.{OnNamed, OnBytes, OpensNothing, LeavesHost}
 use Rattle.tool_endings.specs.EndingsOfRuns.{TakesFile}
 
 -- what is known of a file where nothing is left of an earlier one is known of it from the first
@@ -63,3 +63,10 @@ lost first name n h h1 h' b b' p q types others told files rose moved (inr takes
   given = rose_behind n (length takes.taken) h.given h1.given h'.given rose takes.given;
   lines = moved takes.taken takes.lines;
 })
+
+-- a host that was left as it was, twice
+pub left-twice : (h h1 h' : HostTold) → LeavesHost h h1 → LeavesHost h1 h' → LeavesHost h h'
+left-twice h h1 h' a b = record {
+  written = b.written ∙ a.written;
+  no_fault = record { read = b.no_fault.read ∙ a.no_fault.read; write = b.no_fault.write ∙ a.no_fault.write };
+}

@@ -8,22 +8,25 @@ pub returns-clause-done : goal.returns-clause-done
 returns-clause-done c =
     surely c.sure_hosts_are_sure.ensures (asked_by (word_bytes c.args.words.now)) c.new-host.result
     (files_of c.args.files.items) c.run_tool.result
-    (ap (λ (s : SureHostState). s.files) c.new-host.ensures) c.run_tool.ensures.sure
+    (ap (λ (s : SureHostState). s.files) c.new-host.ensures) c.run_tool.ensures.sure.done
+
+pub returns-clause-usage : goal.returns-clause-usage
+returns-clause-usage c = c.run_tool.ensures.call.status.usage
 
 pub returns-clause-comes : goal.returns-clause-comes
 returns-clause-comes c =
     surely_comes (asked_by (word_bytes c.args.words.now)) c.new-host.result
     (files_of c.args.files.items) c.run_tool.result (ap (λ (s : SureHostState). s.files) c.new-host.ensures)
-    c.run_tool.ensures.comes
+    c.run_tool.ensures.call.status.comes
 
 pub returns-clause-missing : goal.returns-clause-missing
 returns-clause-missing c =
     surely_lacks (asked_by (word_bytes c.args.words.now)) c.new-host.result (files_of c.args.files.items) c.run_tool.result
-    (ap (λ (s : SureHostState). s.files) c.new-host.ensures) c.run_tool.ensures.unsure
-    (c.five_is_needed.ensures _ _ _ _ _ _ c.run_tool.ensures.ended)
+    (ap (λ (s : SureHostState). s.files) c.new-host.ensures) c.run_tool.ensures.sure.unsure
+    (c.five_is_needed.ensures _ _ _ _ _ _ c.run_tool.ensures.call.ended)
 
 pub returns-clause-never : goal.returns-clause-never
 returns-clause-never c = (
-  unrisen c.run_tool.result 6 c.run_tool.ensures.write_fault,
-  unrisen c.run_tool.result 7 c.run_tool.ensures.put_fault,
+  unrisen c.run_tool.result 6 c.run_tool.ensures.call.status.errors.write,
+  unrisen c.run_tool.result 7 c.run_tool.ensures.call.status.errors.put,
 )

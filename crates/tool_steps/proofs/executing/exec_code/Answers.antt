@@ -1,5 +1,7 @@
-use Rattle.std.proofs.Common.{rules, refl, ◌≡◌, ◌≤◌, List, ℕ, length, subst, sym}
+use Rattle.std.proofs.Common.{rules, refl, ◌≡◌, List, ℕ, subst, sym}
 use Rattle.std.specs.List.{AllZip}
+use Rattle.base_host.proofs.lemmas.ReadLaws.{whole_bytes, whole_left, whole_front}
+use Rattle.tool_steps.proofs.lemmas.FileParts.{too_long}
 use Rattle.base_fixed_point.specs.declared.types.FixType.{FixType}
 use Rattle.c_interpreter.specs.States.{MachineState, tree_of}
 use Rattle.tool_runner.specs.Ticks.{IsNarrower}
@@ -25,10 +27,11 @@ returns-in-Err-TooLong-clause-ends g c =
     let before : HostTold =
     told g.H.Host.files g.H.Host.rest g.H.Host.given g.H.Host.written g.H.Host.sure g.H.Host.read_faults g.H.Host.write_faults
     c.args.host.now in
+    let long = too_long c.in-Err-TooLong.field-0 (search rules) c.in-Err-TooLong.ensures.reads in
     record {
       finds = record {
-        code = longer_than before c.args.code.now code_limit (c.in-Err-TooLong.ensures.too_long (search rules));
-        read = c.in-Err-TooLong.ensures.front (λ e. cc);
+        code = longer_than before c.args.code.now code_limit long.long;
+        read = long.front;
         left = record { written = search rules; no_fault = record { read = search rules; write = search rules } };
         silent = refl;
       };
@@ -45,13 +48,11 @@ returns-in-Err-clause-ends g c =
     told g.H.Host.files g.H.Host.rest g.H.Host.given g.H.Host.written g.H.Host.sure g.H.Host.read_faults g.H.Host.write_faults
     c.read_all.new.host in
     let same : c.deref.result.now ≡ bytes = search rules in
-    let fits : length bytes ≤ code_limit =
-    subst (λ (x : List ℕ). length x ≤ code_limit) same
-    (subst (λ (n : ℕ). n ≤ code_limit) (sym c.deref.ensures.len) c.in-Ok.ensures.fits) in
     let left : LeavesHost before between =
     record { written = search rules; no_fault = record { read = search rules; write = search rules } } in
     let unstarted : NotStarted bytes c.in-Err.ending = subst (λ (x : List ℕ). NotStarted x c.in-Err.ending) same (search rules) in
-    exec_unstarted c.in-Err.ending c.args.code.now c.args.trace.now bytes before between _ c.in-Ok.ensures.whole fits (c.in-Ok.ensures.front (λ e. cc)) left unstarted
+    exec_unstarted c.in-Err.ending c.args.code.now c.args.trace.now bytes before between _ (whole_bytes c.in-Ok.ensures.reads)
+    c.in-Ok.ensures.reads.fits (whole_front c.in-Ok.ensures.reads) left unstarted
 
 pub returns-clause-ends : goal.returns-clause-ends
 returns-clause-ends g c =
@@ -73,11 +74,10 @@ returns-clause-ends g c =
     let left : LeavesHost before between =
     record { written = search rules; no_fault = record { read = search rules; write = search rules } } in
     let read : CodeRead c.args.code.now bytes m before between = record {
-      whole = c.in-Ok.ensures.whole;
-      told = c.in-Ok.ensures.told;
-      given = search rules;
-      fits = subst (λ (x : List ℕ). length x ≤ code_limit) same
-          (subst (λ (n : ℕ). n ≤ code_limit) (sym c.deref.ensures.len) c.in-Ok.ensures.fits);
+      whole = whole_bytes c.in-Ok.ensures.reads;
+      told = whole_left c.in-Ok.ensures.reads;
+      given = c.in-Ok.ensures.reads.count;
+      fits = c.in-Ok.ensures.reads.fits;
       starts = starts;
       files = search rules;
       same = left;
