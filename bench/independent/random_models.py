@@ -6,6 +6,7 @@ import model_rows
 import model_rules
 import model_runs
 import model_text
+from lustre_models import compare_flows
 from mdl_writer import Writer
 from model_values import bounds
 from random_scripts import compare_drives, some_row
@@ -516,7 +517,8 @@ def compare_runs(chance, model, program):
     if status or not found or ticks != len(trace) or calls != run.calls or steps > ticks * bound:
         return "run", wanted, status, text
     by_gcc = program.differs_by_gcc(chance, trace, len(model.ports(b"Outport")), wanted, warns=True)
-    return by_gcc or program.differs(["exec", *words[1:]], 0, text)
+    again = by_gcc or program.differs(["exec", *words[1:]], 0, text)
+    return again or compare_flows(chance, model, program, trace, wanted)
 
 
 def compare_one(chance, program):
