@@ -5,11 +5,6 @@ import subprocess
 import sys
 
 TOP = os.path.dirname(os.path.dirname(os.path.abspath(__file__)))
-EXAMPLES = [
-    "examples/integration/code.c",
-    "crates/mdlc/data/nested_enables.mdl",
-    "crates/mdlc/data/generated_model.mdl",
-]
 
 
 def name_of(path):
@@ -18,10 +13,10 @@ def name_of(path):
     return os.path.basename(os.path.dirname(os.path.abspath(path))) if stem in ("code", "model") else stem
 
 
-def emitted(words, folder):
+def emitted(words, examples, folder):
     """The name and the C file of each word, or of each example where `all` is the word."""
     found = []
-    for path in [os.path.join(TOP, it) for it in EXAMPLES] if words == ["all"] else words:
+    for path in [os.path.join(TOP, it) for it in examples] if words == ["all"] else words:
         code = os.path.abspath(path)
         if path.endswith(".mdl"):
             code = os.path.join(folder, f"{name_of(path)}.c")
