@@ -4,8 +4,10 @@ pub mod PrintedLists
 pub mod Lexing
 pub mod TextReading
 pub mod CommentLaws
+pub mod PlainComments
 pub mod HarmlessComments
 pub mod Utf8Test
+pub mod EndedLines
 pub mod NotedLines
 pub mod PrintedTrees
 pub mod PrintedBodies

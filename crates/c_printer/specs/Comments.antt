@@ -19,6 +19,10 @@ shown_byte in_utf8 b =
 abbrev pub byte_after : (in_utf8 : Bool) → (last b : ℕ) → ℕ
 byte_after in_utf8 last b = if (b == 47) && (last == 47) then 46 else shown_byte in_utf8 b
 
+-- a byte that is shown as it is, after whatever byte of whatever text
+abbrev pub is_plain : ℕ → Bool
+is_plain b = is_quiet b && nat_le b 127 && not (b == 47)
+
 abbrev pub shown_after : (in_utf8 : Bool) → (last : ℕ) → List ℕ → List ℕ
 shown_after in_utf8 last [] = []
 shown_after in_utf8 last (b ∷ bs) =

@@ -53,19 +53,19 @@ fn text_of(alloc: Global, notes: &Notes, program: &Program) -> Result<Vec<u8>, A
 {
     let mut out = Vec::new(alloc);
     put(&mut out, b"#include <stdint.h>\n")?;
-    put_pures(alloc, &mut out, program)?;
+    put_pures(&mut out, program)?;
     put_structs(alloc, &mut out, notes, program)?;
     put_procedures(alloc, &mut out, notes, program)?;
     Ok(out)
 }
 
-fn put_pures(alloc: Global, out: &mut Vec<u8>, program: &Program) -> Result<(), AllocError>
+fn put_pures(out: &mut Vec<u8>, program: &Program) -> Result<(), AllocError>
     ensures { OnOk result (out.new.items
         ≡ out.old.items ++ flat_map (pure_bytes (program_tree program.now))
         (map pure_tree program.now.pure.items)) }
 {
     for pure in &program.pure {
-        heads::put_pure(alloc, out, program, pure)?;
+        heads::put_pure(out, program, pure)?;
     }
     Ok(())
 }

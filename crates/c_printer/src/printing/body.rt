@@ -1,20 +1,21 @@
 // Expressions, conditions and statements.
 ghost use Rattle.std.specs.Prelude.{◌≡◌, ◌++◌, map, codes, OnOk};
 ghost use Rattle.c_grammar.specs.Grammar.{op_text, compare_text, type_text};
-ghost use Rattle.c_syntax.specs.Tree.{pure, assign, assign_at, call, exprs_of_list, stmts_of_list};
+ghost use Rattle.c_syntax.specs.Tree.{pure, read, assign, assign_at, call, exprs_of_list, stmts_of_list};
 ghost use Rattle.c_syntax.specs.Plain.{expr_tree, cond_tree, stmt_tree};
 ghost use Rattle.c_printer.specs.Lines.{ended, margin_bytes};
-ghost use Rattle.c_printer.specs.Printing.{leaf_bytes, literal_bytes, expr_bytes, exprs_bytes, later_exprs_bytes, cond_bytes, deeper, target_bytes, arguments_bytes, stored_bytes, store_bytes, item_store_bytes, call_bytes, target_note, noted_stmt_bytes, noted_stmts_bytes, noted_else_bytes};
+ghost use Rattle.c_printer.specs.Printing.{literal_bytes, expr_bytes, exprs_bytes, later_exprs_bytes, cond_bytes, deeper, target_bytes, arguments_bytes, stored_bytes, store_bytes, item_store_bytes, call_bytes, target_note, noted_stmt_bytes, noted_stmts_bytes, noted_else_bytes};
 ghost use Rattle.c_printer.specs.VocabularyOf.{scope_notes, vocabulary_of};
 
 use crate::notes::note_at;
-use crate::printing::lines::{put_margin, put_noted};
+use crate::printing::lines::{end_line, put_margin};
 use crate::printing::names::{
     Scope, field_name, field_type, procedure_name, procedure_params, pure_name,
 };
 use crate::printing::put;
 use base_core::{Compare, Text};
 use c_syntax::{BinOp, CType, Cond, Expr, Leaf, Stmt, Target};
+use itoa::Buffer;
 use std::alloc::{AllocError, Global};
 
 pub(super) fn type_text(of: CType) -> &'static [u8]
@@ -56,17 +57,22 @@ fn compare_text(how: Compare) -> &'static [u8]
     }
 }
 
-fn put_leaf(out: &mut Vec<u8>, scope: &Scope, leaf: Leaf) -> Result<(), AllocError>
-    ensures { OnOk result (out.new.items ≡ out.old.items ++ leaf_bytes (vocabulary_of scope.now) leaf) }
+// Appends what is read of a leaf, with its cast.
+fn put_read(out: &mut Vec<u8>, scope: &Scope, leaf: Leaf) -> Result<(), AllocError>
+    ensures { OnOk result (out.new.items
+        ≡ out.old.items ++ expr_bytes (vocabulary_of scope.now) (read leaf)) }
 {
     match leaf {
-        Leaf::Param(k) => put(out, scope.param_name(k)),
+        Leaf::Param(k) => {
+            put(out, b"(int64_t)")?;
+            put(out, scope.param_name(k))
+        }
         Leaf::Own(f) => {
-            put(out, b"s->")?;
+            put(out, b"(int64_t)s->")?;
             put(out, field_name(scope.fields, f))
         }
         Leaf::Child(f, g) => {
-            put(out, b"s->")?;
+            put(out, b"(int64_t)s->")?;
             put(out, field_name(scope.fields, f))?;
             put(out, b".")?;
             put(out, field_name(scope.inner_fields(f), g))
@@ -74,60 +80,52 @@ fn put_leaf(out: &mut Vec<u8>, scope: &Scope, leaf: Leaf) -> Result<(), AllocErr
     }
 }
 
-fn put_literal(alloc: Global, out: &mut Vec<u8>, value: i64) -> Result<(), AllocError>
+fn put_literal(out: &mut Vec<u8>, value: i64) -> Result<(), AllocError>
     ensures { OnOk result (out.new.items ≡ out.old.items ++ literal_bytes value) }
 {
-    let digits = value.unsigned_abs().to_string(alloc)?;
+    let mut digits = Buffer::new();
     put(out, b"INT64_C(")?;
-    put(out, digits.as_bytes())?;
+    put(out, digits.format(value.unsigned_abs()).as_bytes())?;
     put(out, b")")
 }
 
 #[cycle(expression)]
-pub(super) fn put_expr(
-    alloc: Global,
-    out: &mut Vec<u8>,
-    scope: &Scope,
-    e: &Expr,
-) -> Result<(), AllocError>
+pub(super) fn put_expr(out: &mut Vec<u8>, scope: &Scope, e: &Expr) -> Result<(), AllocError>
     ensures { OnOk result (out.new.items
         ≡ out.old.items ++ expr_bytes (vocabulary_of scope.now) (expr_tree e.now)) }
 {
     match e {
-        Expr::Literal(value) => put_literal(alloc, out, *value),
+        Expr::Literal(value) => put_literal(out, *value),
         Expr::Neg(operand) => {
             put(out, b"(-")?;
-            put_expr(alloc, out, scope, operand)?;
+            put_expr(out, scope, operand)?;
             put(out, b")")
         }
-        Expr::Read(leaf) => {
-            put(out, b"(int64_t)")?;
-            put_leaf(out, scope, *leaf)
-        }
+        Expr::Read(leaf) => put_read(out, scope, *leaf),
         Expr::Binary(op, left, right) => {
             put(out, b"(")?;
-            put_expr(alloc, out, scope, left)?;
+            put_expr(out, scope, left)?;
             put(out, b" ")?;
             put(out, op_text(*op))?;
             put(out, b" ")?;
-            put_expr(alloc, out, scope, right)?;
+            put_expr(out, scope, right)?;
             put(out, b")")
         }
         Expr::Pick(test, on_true, on_false) => {
             put(out, b"(")?;
-            put_cond(alloc, out, scope, test)?;
+            put_cond(out, scope, test)?;
             put(out, b" ? ")?;
-            put_expr(alloc, out, scope, on_true)?;
+            put_expr(out, scope, on_true)?;
             put(out, b" : ")?;
-            put_expr(alloc, out, scope, on_false)?;
+            put_expr(out, scope, on_false)?;
             put(out, b")")
         }
-        Expr::Pure(k, values) => put_pure_call(alloc, out, scope, *k, values),
+        Expr::Pure(k, values) => put_pure_call(out, scope, *k, values),
         Expr::At(field, index) => {
             put(out, b"(int64_t)s->")?;
             put(out, field_name(scope.fields, *field))?;
             put(out, b"[")?;
-            put_expr(alloc, out, scope, index)?;
+            put_expr(out, scope, index)?;
             put(out, b"]")
         }
     }
@@ -135,7 +133,6 @@ pub(super) fn put_expr(
 
 #[cycle(expression)]
 fn put_pure_call(
-    alloc: Global,
     out: &mut Vec<u8>,
     scope: &Scope,
     k: u32,
@@ -147,13 +144,13 @@ fn put_pure_call(
 {
     put(out, pure_name(scope.program, k))?;
     put(out, b"(")?;
-    put_exprs(alloc, out, scope, values)?;
+    put_exprs(out, scope, values)?;
     put(out, b")")
 }
 
 // Expressions with `, ` between each two.
 #[cycle(expression)]
-fn put_exprs(alloc: Global, out: &mut Vec<u8>, scope: &Scope, es: &[Expr]) -> Result<(), AllocError>
+fn put_exprs(out: &mut Vec<u8>, scope: &Scope, es: &[Expr]) -> Result<(), AllocError>
     ensures { OnOk result (out.new.items
         ≡ out.old.items ++ exprs_bytes (vocabulary_of scope.now)
         (exprs_of_list (map expr_tree es.now))) }
@@ -161,46 +158,46 @@ fn put_exprs(alloc: Global, out: &mut Vec<u8>, scope: &Scope, es: &[Expr]) -> Re
     let Some((first, later)) = es.split_first() else {
         return Ok(());
     };
-    put_expr(alloc, out, scope, first)?;
+    put_expr(out, scope, first)?;
     for e in later {
         put(out, b", ")?;
-        put_expr(alloc, out, scope, e)?;
+        put_expr(out, scope, e)?;
     }
     Ok(())
 }
 
 #[cycle(expression)]
-fn put_cond(alloc: Global, out: &mut Vec<u8>, scope: &Scope, test: &Cond) -> Result<(), AllocError>
+fn put_cond(out: &mut Vec<u8>, scope: &Scope, test: &Cond) -> Result<(), AllocError>
     ensures { OnOk result (out.new.items
         ≡ out.old.items ++ cond_bytes (vocabulary_of scope.now) (cond_tree test.now)) }
 {
     match test {
         Cond::Compare(how, left, right) => {
             put(out, b"(")?;
-            put_expr(alloc, out, scope, left)?;
+            put_expr(out, scope, left)?;
             put(out, b" ")?;
             put(out, compare_text(*how))?;
             put(out, b" ")?;
-            put_expr(alloc, out, scope, right)?;
+            put_expr(out, scope, right)?;
             put(out, b")")
         }
         Cond::Both(left, right) => {
             put(out, b"(")?;
-            put_cond(alloc, out, scope, left)?;
+            put_cond(out, scope, left)?;
             put(out, b" && ")?;
-            put_cond(alloc, out, scope, right)?;
+            put_cond(out, scope, right)?;
             put(out, b")")
         }
         Cond::Either(left, right) => {
             put(out, b"(")?;
-            put_cond(alloc, out, scope, left)?;
+            put_cond(out, scope, left)?;
             put(out, b" || ")?;
-            put_cond(alloc, out, scope, right)?;
+            put_cond(out, scope, right)?;
             put(out, b")")
         }
         Cond::Not(operand) => {
             put(out, b"(!")?;
-            put_cond(alloc, out, scope, operand)?;
+            put_cond(out, scope, operand)?;
             put(out, b")")
         }
     }
@@ -228,7 +225,6 @@ fn put_target(out: &mut Vec<u8>, scope: &Scope, target: Target) -> Result<(), Al
 
 // The arguments of a call of a procedure with these parameters, each after `, ` and with its cast.
 fn put_arguments(
-    alloc: Global,
     out: &mut Vec<u8>,
     scope: &Scope,
     params: &[(Text, CType)],
@@ -242,13 +238,12 @@ fn put_arguments(
         put(out, b", (")?;
         put(out, type_text(param.1))?;
         put(out, b")")?;
-        put_expr(alloc, out, scope, value)?;
+        put_expr(out, scope, value)?;
     }
     Ok(())
 }
 
 fn put_call(
-    alloc: Global,
     out: &mut Vec<u8>,
     scope: &Scope,
     procedure: u32,
@@ -263,7 +258,6 @@ fn put_call(
     put(out, b"(")?;
     put_target(out, scope, target)?;
     put_arguments(
-        alloc,
         out,
         scope,
         procedure_params(scope.program, procedure),
@@ -272,24 +266,17 @@ fn put_call(
     put(out, b");")
 }
 
-fn put_store(
-    alloc: Global,
-    out: &mut Vec<u8>,
-    scope: &Scope,
-    field: u32,
-    value: &Expr,
-) -> Result<(), AllocError>
+fn put_store(out: &mut Vec<u8>, scope: &Scope, field: u32, value: &Expr) -> Result<(), AllocError>
     ensures { OnOk result (out.new.items ≡ out.old.items
         ++ store_bytes (vocabulary_of scope.now) field (expr_tree value.now)) }
 {
     put(out, b"s->")?;
     put(out, field_name(scope.fields, field))?;
     put(out, b" = (")?;
-    put_stored(alloc, out, scope, field, value)
+    put_stored(out, scope, field, value)
 }
 
 fn put_item_store(
-    alloc: Global,
     out: &mut Vec<u8>,
     scope: &Scope,
     field: u32,
@@ -303,25 +290,19 @@ fn put_item_store(
     put(out, b"s->")?;
     put(out, field_name(scope.fields, field))?;
     put(out, b"[")?;
-    put_expr(alloc, out, scope, index)?;
+    put_expr(out, scope, index)?;
     put(out, b"] = (")?;
-    put_stored(alloc, out, scope, field, value)
+    put_stored(out, scope, field, value)
 }
 
 // What is stored, from the type in its cast on.
-fn put_stored(
-    alloc: Global,
-    out: &mut Vec<u8>,
-    scope: &Scope,
-    field: u32,
-    value: &Expr,
-) -> Result<(), AllocError>
+fn put_stored(out: &mut Vec<u8>, scope: &Scope, field: u32, value: &Expr) -> Result<(), AllocError>
     ensures { OnOk result (out.new.items ≡ out.old.items
         ++ stored_bytes (vocabulary_of scope.now) field (expr_tree value.now)) }
 {
     put(out, type_text(field_type(scope.fields, field)))?;
     put(out, b")")?;
-    put_expr(alloc, out, scope, value)?;
+    put_expr(out, scope, value)?;
     put(out, b";")
 }
 
@@ -338,9 +319,10 @@ fn put_set(
         (assign 0 field (expr_tree value.now))) }
 {
     let note = note_at(scope.notes, field as usize);
-    let mut code = Vec::new(alloc);
-    put_store(alloc, &mut code, scope, field, value)?;
-    put_noted(alloc, out, margin, note, &code)
+    put_margin(out, margin)?;
+    let code_at = out.len();
+    put_store(out, scope, field, value)?;
+    end_line(alloc, out, margin, code_at, note)
 }
 
 fn put_set_at(
@@ -357,9 +339,10 @@ fn put_set_at(
         (assign_at 0 field (expr_tree index.now) (expr_tree value.now))) }
 {
     let note = note_at(scope.notes, field as usize);
-    let mut code = Vec::new(alloc);
-    put_item_store(alloc, &mut code, scope, field, index, value)?;
-    put_noted(alloc, out, margin, note, &code)
+    put_margin(out, margin)?;
+    let code_at = out.len();
+    put_item_store(out, scope, field, index, value)?;
+    end_line(alloc, out, margin, code_at, note)
 }
 
 fn put_noted_call(
@@ -376,9 +359,10 @@ fn put_noted_call(
         (call 0 procedure target (exprs_of_list (map expr_tree values.now)))) }
 {
     let note = target_note(scope, target);
-    let mut code = Vec::new(alloc);
-    put_call(alloc, &mut code, scope, procedure, target, values)?;
-    put_noted(alloc, out, margin, note, &code)
+    put_margin(out, margin)?;
+    let code_at = out.len();
+    put_call(out, scope, procedure, target, values)?;
+    end_line(alloc, out, margin, code_at, note)
 }
 
 // The note at a call: that of the field on which it is.
@@ -391,20 +375,14 @@ fn target_note<'a>(scope: &Scope<'a>, target: Target) -> &'a [u8]
     }
 }
 
-fn put_test(
-    alloc: Global,
-    out: &mut Vec<u8>,
-    scope: &Scope,
-    margin: usize,
-    test: &Cond,
-) -> Result<(), AllocError>
+fn put_test(out: &mut Vec<u8>, scope: &Scope, margin: usize, test: &Cond) -> Result<(), AllocError>
     ensures { OnOk result (out.new.items ≡ out.old.items
         ++ (margin_bytes margin ++ codes "if " ++ cond_bytes (vocabulary_of scope.now)
         (cond_tree test.now) ++ ended (codes " {"))) }
 {
     put_margin(out, margin)?;
     put(out, b"if ")?;
-    put_cond(alloc, out, scope, test)?;
+    put_cond(out, scope, test)?;
     put(out, b" {\n")
 }
 
@@ -436,7 +414,7 @@ fn put_stmt(
             ..
         } => put_set_at(alloc, out, scope, margin, *field, index, value),
         Stmt::If { test, yes, no, .. } => {
-            put_test(alloc, out, scope, margin, test)?;
+            put_test(out, scope, margin, test)?;
             put_stmts(alloc, out, scope, deeper(margin), yes)?;
             put_else(alloc, out, scope, margin, no)?;
             put_close(out, margin)

@@ -1,15 +1,28 @@
 // Comments that may hold any text.
 ghost use Rattle.std.specs.Prelude.{◌≡◌, ◌<◌, ◌≤◌, ◌++◌, length, OnOk};
+ghost use Rattle.std.specs.List.{list_all};
 ghost use Rattle.std.specs.Str.{is_utf8};
 ghost use Rattle.c_grammar.specs.Tokens.{is_white_space};
 ghost use Rattle.c_rules.specs.AlikeTexts.{is_quiet};
-ghost use Rattle.c_printer.specs.Comments.{byte_after, comment_bytes, comment_text, cut_place, is_inside, shown_after, shown_byte};
+ghost use Rattle.c_printer.specs.Comments.{byte_after, comment_bytes, comment_text, cut_place, is_inside, is_plain, shown_after, shown_byte};
 
 use crate::printing::put;
 use std::alloc::AllocError;
 
 // The most bytes of a text in a comment.
 const NOTE_LIMIT: usize = 60;
+
+// How many bytes the comment with a text has.
+#[tactic(auto, using(crate::proofs::PlainComments::short_comment, crate::proofs::PlainComments::cut_comment))]
+pub(super) fn comment_len(text: &[u8]) -> usize
+    ensures { result ≡ length (comment_bytes text.now) }
+{
+    if text.len() <= NOTE_LIMIT {
+        text.len() + 6
+    } else {
+        cut_place(is_utf8(text), text) + 9
+    }
+}
 
 // Appends the comment with a text.
 pub(super) fn put_comment(out: &mut Vec<u8>, text: &[u8]) -> Result<(), AllocError>
@@ -20,8 +33,35 @@ pub(super) fn put_comment(out: &mut Vec<u8>, text: &[u8]) -> Result<(), AllocErr
     put(out, b" */")
 }
 
+// Appends a text as a comment shows it.
+#[tactic(auto, using(crate::proofs::PlainComments::plain_comment))]
+pub(super) fn put_text(out: &mut Vec<u8>, text: &[u8]) -> Result<(), AllocError>
+    ensures { OnOk result (out.new.items ≡ out.old.items ++ comment_text text.now) }
+{
+    if text.len() <= NOTE_LIMIT && is_plain(text) {
+        put(out, text)
+    } else {
+        put_other_text(out, text)
+    }
+}
+
+// Whether each byte is shown as it is.
+fn is_plain(text: &[u8]) -> bool
+    ensures { result ≡ list_all is_plain text.now }
+{
+    text.iter().all(|byte| is_plain_byte(*byte))
+}
+
+// Whether a byte is shown as it is, in whatever text.
+fn is_plain_byte(byte: u8) -> bool
+    ensures { result ≡ is_plain byte }
+{
+    is_quiet(byte) && byte <= 127 && byte != b'/'
+}
+
+// Appends a text byte by byte.
 #[tactic(auto, unfolding(crate::specs::Comments::comment_text))]
-fn put_text(out: &mut Vec<u8>, text: &[u8]) -> Result<(), AllocError>
+fn put_other_text(out: &mut Vec<u8>, text: &[u8]) -> Result<(), AllocError>
     ensures { OnOk result (out.new.items ≡ out.old.items ++ comment_text text.now) }
 {
     let in_utf8 = is_utf8(text);

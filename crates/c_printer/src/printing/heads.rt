@@ -9,19 +9,15 @@ ghost use Rattle.c_printer.specs.Printing.{pure_head_bytes, pure_bytes, pure_par
 
 use crate::notes::{Notes, note_at};
 use crate::printing::body::{put_expr, put_stmts, type_text};
-use crate::printing::lines::{put_note, put_noted};
+use crate::printing::lines::{end_line, put_margin, put_note};
 use crate::printing::names::{Params, Scope, struct_fields, struct_name};
 use crate::printing::put;
 use base_core::Text;
 use c_syntax::{CType, Field, FieldKind, Procedure, Program, Pure, StructDef};
+use itoa::Buffer;
 use std::alloc::{AllocError, Global};
 
-pub(super) fn put_pure(
-    alloc: Global,
-    out: &mut Vec<u8>,
-    program: &Program,
-    pure: &Pure,
-) -> Result<(), AllocError>
+pub(super) fn put_pure(out: &mut Vec<u8>, program: &Program, pure: &Pure) -> Result<(), AllocError>
     ensures { OnOk result (out.new.items ≡ out.old.items ++ pure_bytes (program_tree program.now)
         (pure_tree pure.now)) }
 {
@@ -33,7 +29,7 @@ pub(super) fn put_pure(
         params: Params::Pure(&pure.params),
         notes: &[],
     };
-    put_expr(alloc, out, &scope, &pure.body)?;
+    put_expr(out, &scope, &pure.body)?;
     put(out, b";\n}\n")
 }
 
@@ -112,36 +108,32 @@ fn put_field(
     ensures { OnOk result (out.new.items ≡ out.old.items
         ++ noted_line 4 note.now (field_bytes (program_tree program.now) (field_tree field.now))) }
 {
-    let mut code = Vec::new(alloc);
-    put_declaration(alloc, &mut code, program, field)?;
-    put_noted(alloc, out, 4, note, &code)
+    put_margin(out, 4)?;
+    let code_at = out.len();
+    put_declaration(out, program, field)?;
+    end_line(alloc, out, 4, code_at, note)
 }
 
-fn put_declaration(
-    alloc: Global,
-    out: &mut Vec<u8>,
-    program: &Program,
-    field: &Field,
-) -> Result<(), AllocError>
+fn put_declaration(out: &mut Vec<u8>, program: &Program, field: &Field) -> Result<(), AllocError>
     ensures { OnOk result (out.new.items
         ≡ out.old.items ++ field_bytes (program_tree program.now) (field_tree field.now)) }
 {
     put_kind(out, program, field.kind)?;
     put(out, b" ")?;
     put(out, field.name.bytes())?;
-    put_length(alloc, out, field.kind)?;
+    put_length(out, field.kind)?;
     put(out, b";")
 }
 
 // The length of an array, after the field's name.
-fn put_length(alloc: Global, out: &mut Vec<u8>, kind: FieldKind) -> Result<(), AllocError>
+fn put_length(out: &mut Vec<u8>, kind: FieldKind) -> Result<(), AllocError>
     ensures { OnOk result (out.new.items ≡ out.old.items ++ length_bytes kind) }
 {
     match kind {
         FieldKind::Array(_, count) => {
-            let digits = count.to_string(alloc)?;
+            let mut digits = Buffer::new();
             put(out, b"[")?;
-            put(out, digits.as_bytes())?;
+            put(out, digits.format(count).as_bytes())?;
             put(out, b"]")
         }
         FieldKind::Number(_) | FieldKind::Struct(_) => Ok(()),

@@ -1,5 +1,5 @@
 use Rattle.std.proofs.Common.{◌≡◌, ◌++◌, replicate}
-use Rattle.c_printer.proofs.printing.lines.put_margin.Given as goal
+use Rattle.c_printer.proofs.printing.lines.put_blanks.Given as goal
 
 abbrev pub invariant-loop : goal.invariant-loop
 invariant-loop l = l.out.items ≡ l.initial.out.items ++ replicate l.counter 32

@@ -1,0 +1,19 @@
+use Rattle.std.proofs.Common.{ap, ◌∙◌, ◌++◌, map}
+use Rattle.std.proofs.lemmas.Result.{IfOk-equal}
+use Rattle.c_syntax.specs.Tree.{exprs_of_list}
+use Rattle.c_syntax.specs.Plain.{expr_tree}
+use Rattle.c_printer.specs.Lines.{noted_line}
+use Rattle.c_printer.specs.Printing.{call_bytes}
+use Rattle.c_printer.specs.VocabularyOf.{vocabulary_of}
+use Rattle.c_printer.proofs.EndedLines.{line-put}
+use Rattle.c_printer.proofs.printing.body.put_noted_call.Goals as goal
+
+pub returns : goal.returns
+returns c =
+    let code = call_bytes (vocabulary_of c.args.scope.now) c.args.procedure c.args.target
+    (exprs_of_list (map expr_tree c.args.values.now)) in
+    IfOk-equal c.end_line.result _ _ _
+    (line-put c.end_line.result c.args.margin c.len-code_at.result c.args.out.now.items c.put_margin.new.out.items code
+    c.put_call.new.out.items c.end_line.new.out.items c.target_note-note.result.now c.in_ok-put_margin.ensures (c.len-code_at.ensures ∙ c.put_margin.new.out.ok.0)
+    c.in_ok-put_call.ensures c.end_line.ensures)
+    (ap (λ note. c.args.out.now.items ++ noted_line c.args.margin note code) c.target_note-note.ensures)
