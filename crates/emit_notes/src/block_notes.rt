@@ -18,14 +18,17 @@ fn push_block(out: &mut Vec<u8>, label: &Label) -> Result<(), Memory>
     push_bytes(out, b"\"")
 }
 
+/// Room for the note of a block with a short name.
+const NOTE_ROOM: usize = 48;
+
 /// The note of a row after some words; of a row that isn't there none.
 fn row_note(alloc: Global, labels: &[Label], words: &[u8], row: usize) -> Result<Vec<u8>, Memory>
     ensures { IfOk result (λ v. v.items ≡ noted.row_note labels.now words.now row) }
 {
-    let mut note = Vec::new(alloc);
     let Some(label) = label_at(labels, row) else {
-        return Ok(note);
+        return Ok(Vec::new(alloc));
     };
+    let mut note = Vec::with_capacity(alloc, NOTE_ROOM)?;
     push_bytes(&mut note, words)?;
     push_block(&mut note, label)?;
     Ok(note)
