@@ -17,6 +17,7 @@ use Rattle.c_semantics.specs.Rows.{start_run}
 use Rattle.c_rules.specs.Reading.{CFaultOf}
 use Rattle.c_reading_laws.specs.Agreement.{ReadingsAgree}
 use Rattle.lustre_reading_laws.specs.ReadingLaws.{TextsAreJudged}
+use Rattle.lustre_agreement.specs.BackEnds.{RightFilesAgree}
 use Rattle.emit_notes.specs.ModelNotes.{HasNotesOf}
 use Rattle.tool_compiled.specs.Compilation.{Compilation, root_types, IsCompilationOf}
 use Rattle.tool_runner.specs.declared.outcome.Totals.{Totals}
@@ -308,24 +309,24 @@ exec-does agree _ s code trace h h' b before b' ends plain is whole = absurd end
 
 -- ---- All
 
-does : OneVerdict → ReadingsAgree → TextsAreJudged → ShapesAreOne → (e : Ending) (s : ℕ) (a : Option Asked) (h h' : HostTold)
+does : OneVerdict → ReadingsAgree → TextsAreJudged → RightFilesAgree → ShapesAreOne → (e : Ending) (s : ℕ) (a : Option Asked) (h h' : HostTold)
     (b before b' : SinkTold) → Finds e a h h' b before → IsPlain (status_of e) → s ≡ status_of e → PutsWhole (text_of e) before b' → Does s a h h' b b'
-does one agree judged shapes e s None h h' b before b' ends plain is whole = tt
-does one agree judged shapes e s (Some (Compile model code)) h h' b before b' ends plain is whole =
+does one agree judged files shapes e s None h h' b before b' ends plain is whole = tt
+does one agree judged files shapes e s (Some (Compile model code)) h h' b before b' ends plain is whole =
     compile-does one e s model code h h' b before b' ends plain is whole
-does one agree judged shapes e s (Some (Run model code trace)) h h' b before b' ends plain is whole =
+does one agree judged files shapes e s (Some (Run model code trace)) h h' b before b' ends plain is whole =
     run-does one e s model code trace h h' b before b' ends plain is whole
-does one agree judged shapes e s (Some (Exec code trace)) h h' b before b' ends plain is whole =
+does one agree judged files shapes e s (Some (Exec code trace)) h h' b before b' ends plain is whole =
     exec-does agree e s code trace h h' b before b' ends plain is whole
-does one agree judged shapes e s (Some (Profile model)) h h' b before b' ends plain is whole =
+does one agree judged files shapes e s (Some (Profile model)) h h' b before b' ends plain is whole =
     profile_does one e s model h h' b before b' ends plain is whole
-does one agree judged shapes e s (Some (Drive model code word script)) h h' b before b' ends plain is whole =
+does one agree judged files shapes e s (Some (Drive model code word script)) h h' b before b' ends plain is whole =
     drive_does one shapes e s model code word script h h' b before b' ends plain is whole
-does one agree judged shapes e s (Some (Gen start size model code)) h h' b before b' ends plain is whole =
+does one agree judged files shapes e s (Some (Gen start size model code)) h h' b before b' ends plain is whole =
     generate_does one e s start size model code h h' b before b' ends plain is whole
-does one agree judged shapes e s (Some (Lustre model file)) h h' b before b' ends plain is whole =
-    lustre_does one e s model file h h' b before b' ends plain is whole
-does one agree judged shapes e s (Some (Flow file trace)) h h' b before b' ends plain is whole =
+does one agree judged files shapes e s (Some (Lustre model file)) h h' b before b' ends plain is whole =
+    lustre_does one files e s model file h h' b before b' ends plain is whole
+does one agree judged files shapes e s (Some (Flow file trace)) h h' b before b' ends plain is whole =
     flow_does judged e s file trace h h' b before b' ends plain is whole
 
 -- running out of memory, whatever was found
@@ -348,13 +349,13 @@ starved e s (Some (Lustre model file)) h h' b before b' is ends =
 starved e s (Some (Flow file trace)) h h' b before b' is ends =
     any_file h.files h.rest file (λ bytes. flow_memory bytes trace s h h' b b' is (flow_unwritten e file trace h h' b before ends))
 
-pub does_right : OneVerdict → ReadingsAgree → TextsAreJudged → ShapesAreOne → (s : ℕ) (a : Option Asked) (h h' : HostTold)
+pub does_right : OneVerdict → ReadingsAgree → TextsAreJudged → RightFilesAgree → ShapesAreOne → (s : ℕ) (a : Option Asked) (h h' : HostTold)
     (b b' : SinkTold) → EndsAt s a h h' b b' → DoesRight s a h h' b b'
-does_right one agree judged shapes s a h h' b b' e calm = by (eqb_tells s 10)
+does_right one agree judged files shapes s a h h' b b' e calm = by (eqb_tells s 10)
   where
     by : {A B : Type 0} → (A × (s ≡ 10)) ⊎ (B × (s ≢ 10)) → Does s a h h' b b'
     by (inl ten) = starved e.found s a h h' b e.before b' ten.1 e.ends.finds
     by (inr other) =
         let plain : IsPlain s = calm_plain s a h h' b b' e calm other.1 in
         let f : SaysFound s a h h' b b' = says_found s a h h' b b' e plain.no_put_fault other.1 in
-        does one agree judged shapes f.found s a h h' b f.before b' f.ends.finds (subst IsPlain f.status plain) f.status f.whole
+        does one agree judged files shapes f.found s a h h' b f.before b' f.ends.finds (subst IsPlain f.status plain) f.status f.whole

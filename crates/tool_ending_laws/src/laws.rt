@@ -2,6 +2,7 @@ ghost use Rattle.tool_ending_laws.specs.Laws.{AreComplete, DoRight, EachComesExa
 
 use c_reading_laws::readings_agree;
 use diagram_verdict::one_verdict;
+use lustre_agreement::back_ends_agree;
 use lustre_reading_laws::texts_are_judged;
 use tool_system_driver::shapes_are_one;
 
@@ -12,6 +13,7 @@ pub fn endings_do_right()
     one_verdict();
     readings_agree();
     texts_are_judged();
+    back_ends_agree();
     shapes_are_one();
 }
 

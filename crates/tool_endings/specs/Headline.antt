@@ -21,6 +21,7 @@ use Rattle.lustre_flows.specs.declared.stuck.LusStuck.{LusStuck}
 use Rattle.lustre_flows.specs.Flows.{flows}
 use Rattle.lustre_right.specs.LongDelays.{long_delay}
 use Rattle.lustre_right.specs.Right.{IsRightText}
+use Rattle.lustre_agreement.specs.BackEnds.{BackEndsAgree}
 use Rattle.right_claim.specs.Right.{GivesOutputs}
 use Rattle.diagram_verdict.specs.Verdict.{HasVerdict, Accepted, Refused}
 use Rattle.emit_notes.specs.ModelNotes.{HasNotesOf}
@@ -256,11 +257,13 @@ pub record Makes (start size : ℕ) (s : ℕ) (model code : List ℕ) (h h' : Ho
 -- ---- `lustre`
 
 -- A right file of Lustre for the model is written as the one new file: its bytes have one reading,
--- and that is right for the diagram, in all parts. The line with the number of its nodes is printed.
+-- and that is right for the diagram, in all parts, and gives over each trace what right code for the
+-- model gives. The line with the number of its nodes is printed.
 pub record WritesRightLustre (r : ResolvedTable) (file : List ℕ) (h h' : HostTold)
     (b b' : SinkTold) : Type 0 where
   pub bytes : List ℕ
   pub right : IsRightText bytes (diagram_of_table r)
+  pub agrees : BackEndsAgree right.file r
   pub written : h'.written ≡ add_file h.written file bytes
   pub line : b'.bytes ≡ append_known b.bytes (nodes_line (length right.file.nodes))
 

@@ -1,0 +1,2 @@
+mod BackEndLaws
+mod RefusedPrograms

@@ -1,0 +1,2 @@
+pub mod BackEnds
+pub mod BackEndExamples
