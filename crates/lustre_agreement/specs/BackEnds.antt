@@ -9,7 +9,7 @@ use Rattle.lustre_syntax.specs.Tree.{FileTree}
 use Rattle.lustre_flows.specs.Flows.{flows, outputs}
 use Rattle.lustre_right.specs.Right.{IsLustreOf}
 
--- over a trace neither is ever stuck, and at each tick the file has the outputs that the program has
+-- over a trace neither is ever stuck, and at each tick the file gives the outputs of the program
 pub record GiveTheSame (f : FileTree) (p : ProgramTree) (xs : List (List ℤ)) : Type 0 where
   pub flows_go_on : (flows f xs).stuck_place ≡ None
   pub rows_go_on : (c_rows p xs).stuck_place ≡ None

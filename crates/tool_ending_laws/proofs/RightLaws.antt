@@ -309,8 +309,9 @@ exec-does agree _ s code trace h h' b before b' ends plain is whole = absurd end
 
 -- ---- All
 
-does : OneVerdict → ReadingsAgree → TextsAreJudged → RightFilesAgree → ShapesAreOne → (e : Ending) (s : ℕ) (a : Option Asked) (h h' : HostTold)
-    (b before b' : SinkTold) → Finds e a h h' b before → IsPlain (status_of e) → s ≡ status_of e → PutsWhole (text_of e) before b' → Does s a h h' b b'
+does : OneVerdict → ReadingsAgree → TextsAreJudged → RightFilesAgree → ShapesAreOne → (e : Ending) (s : ℕ) (a : Option Asked)
+    (h h' : HostTold) (b before b' : SinkTold) → Finds e a h h' b before → IsPlain (status_of e) → s ≡ status_of e →
+    PutsWhole (text_of e) before b' → Does s a h h' b b'
 does one agree judged files shapes e s None h h' b before b' ends plain is whole = tt
 does one agree judged files shapes e s (Some (Compile model code)) h h' b before b' ends plain is whole =
     compile-does one e s model code h h' b before b' ends plain is whole

@@ -257,8 +257,8 @@ pub record Makes (start size : ℕ) (s : ℕ) (model code : List ℕ) (h h' : Ho
 -- ---- `lustre`
 
 -- A right file of Lustre for the model is written as the one new file: its bytes have one reading,
--- and that is right for the diagram, in all parts, and gives over each trace what right code for the
--- model gives. The line with the number of its nodes is printed.
+-- and that is right for the diagram, in all parts. Over each trace it gives the outputs of any right
+-- code for the model. The line with the number of its nodes is printed.
 pub record WritesRightLustre (r : ResolvedTable) (file : List ℕ) (h h' : HostTold)
     (b b' : SinkTold) : Type 0 where
   pub bytes : List ℕ
