@@ -1,0 +1,10 @@
+pub mod lemmas
+pub mod SameSubsystems
+pub mod InnerSubsystems
+pub mod OneFirsts
+pub mod SameOps
+pub mod SameRoles
+pub mod AlikeSteps
+pub mod SignatureSteps
+pub mod ChainSteps
+pub mod FirstSteps
