@@ -1,0 +1,4 @@
+pub mod lemmas
+pub mod Causes
+pub mod Texts
+pub mod Files
