@@ -1,217 +1,194 @@
--- Flows over bytes, and over a file that is read in pieces.
-use Rattle.std.proofs.Common.{◌≡◌, ◌≢◌, refl, sym, ◌∙◌, ap, subst, ℕ, ◌+◌, List, [], ◌++◌, length, take, drop, append_assoc}
-use Rattle.std.specs.Prelude.{Option, None, Result, Ok, Err}
-use Rattle.std.specs.Io.KnownBytes.{IsAtEnd, append_known}
-use Rattle.std.proofs.lemmas.List.{append-nil, take-append-drop}
-use Rattle.base_host.specs.Reading.{Source, HasRead}
-use Rattle.base_host.specs.Buffers.{ReadsOn}
-use Rattle.base_host.proofs.lemmas.ReadLaws.{read_nothing, read_both}
+-- Flows over a file.
+use Rattle.std.proofs.Common.{◌≡◌, refl, sym, ◌∙◌, ap, subst, ℕ, ◌+◌, List, [], ◌∷◌, ◌++◌}
+use Rattle.std.specs.Prelude.{ℤ, Option, None, Some, Ok, Err}
+use Rattle.std.specs.Io.KnownBytes.{append_known}
+use Rattle.std.proofs.lemmas.List.{append-nil}
+use Rattle.base_host.specs.Files.{PutsFront}
+use Rattle.base_host.specs.Reading.{Source}
+use Rattle.base_host.proofs.lemmas.ReadLaws.{read_nothing}
+use Rattle.lustre_syntax.specs.declared.file.LusFile.{LusFile}
 use Rattle.lustre_syntax.specs.Tree.{FileTree}
+use Rattle.lustre_syntax.specs.Plain.{file_tree}
+use Rattle.lustre_flows.specs.declared.stuck.LusStuck.{LusStuck}
 use Rattle.lustre_flows.specs.Flows.{flows}
+use Rattle.lustre_interpreter.specs.States.{IsFirst}
+use Rattle.tool_traces.specs.declared.rows.BadLine.{BadLine}
 use Rattle.tool_traces.specs.Rows.{Trace}
-use Rattle.tool_traces.specs.Pieces.{with_rows, BeginsLine}
+use Rattle.tool_traces.specs.Pieces.{with_rows}
 use Rattle.tool_plain_rows.specs.PlainRows.{plain_rows_after}
-use Rattle.tool_runner.specs.Runs.{Parts}
-use Rattle.tool_runner.proofs.lemmas.Waiting.{all_put}
-use Rattle.tool_runner.proofs.lemmas.FilePieces.{left_of, is_left, none_left}
-use Rattle.tool_flow_runner.specs.declared.outcome.FlowFault.{FlowFault}
-use Rattle.tool_flow_runner.specs.declared.outcome.FlowFault.TheVariants.{Read, Put, Bad, Stuck as StuckFault, Memory}
-use Rattle.tool_flow_runner.specs.FlowTraces.{row_size, flow_trace, whole_flow_trace, flow_lines}
-use Rattle.tool_flow_runner.specs.Runs.{RanAll, StoppedBy, Ends, file_trace, StoppedReading, RunsOver}
-use Rattle.tool_flow_runner.specs.Ticks.{Standing}
-use Rattle.tool_flow_runner.specs.Walks.{HasFlowed, FlowsLines, FlowsToEnd, FlowsTo, StopsIn, EndsLast}
-use Rattle.tool_flow_runner.proofs.FlowLaws.{free_after}
+use Rattle.tool_plain_rows.specs.Lines.{IsNoRow}
+use Rattle.tool_stream.specs.declared.fault.StreamFault.{StreamFault}
+use Rattle.tool_stream.specs.declared.fault.StreamFault.TheVariants as stream
+use Rattle.tool_stream.specs.Walks.{place, Front, WalksAll, StopsAt, CutAfter}
+use Rattle.tool_stream.specs.Files.{WalksFile}
+use Rattle.tool_stream.proofs.lemmas.Waiting.{all_put}
+use Rattle.tool_stream.proofs.lemmas.FilePieces.{left_of, is_left}
+use Rattle.tool_flow_runner.specs.declared.outcome.FlowFault.TheVariants.{Memory}
+use Rattle.tool_flow_runner.specs.declared.outcome.FlowStop.{FlowStop}
+use Rattle.tool_flow_runner.specs.declared.outcome.FlowStop.TheVariants as stop
+use Rattle.tool_flow_runner.specs.FlowTraces.{row_size, flow_lines}
+use Rattle.tool_flow_runner.specs.Faults.{flow_fault}
+use Rattle.tool_flow_runner.specs.Lines.{Stops}
+use Rattle.tool_flow_runner.specs.Runs.{RanAll, StoppedAtLine, StoppedStuck, StoppedByPut, RunsOver}
+use Rattle.tool_flow_runner.proofs.FlowLaws.{IsAfter, first_after, free_after, stuck_next, stuck_lines}
+use Rattle.tool_flow_runner.proofs.Steps.{Place, steps, said, HasTicked, TicksOn, sized, all_ticked}
 
--- ---- Where nothing waits
+-- why a line ends the walk
+abbrev pub stops : Place → List ℕ → FlowStop → Place → Type 0
+stops at line why at' = Stops why line at.0 at.1 at'.1
 
-ends_clear : (f : FileTree) (first : Option (List ℕ)) (trace : Trace) (s : Standing) → s.waiting ≡ [] → FlowsToEnd f first trace s →
-    RanAll s.ticks f trace first s.put
-ends_clear f first trace s none ends = record {
-  count = ends.count;
-  whole = record {
-    rows_only = ends.rows_only;
-    free = ends.free;
-    lines = all_put [] s.waiting (flow_lines f trace.rows) first s.put refl none ends.lines;
-  };
+-- the rows of these lines
+abbrev trace_of : FileTree → List (List ℕ) → Trace
+trace_of f lines = plain_rows_after 0 (row_size f) lines
+
+-- flows that have not begun
+pub record Begins (f : FileTree) (at : Place) : Type 0 where
+  pub after : IsAfter f [] at.1
+  pub none : at.0.ticks ≡ 0
+
+pub first_begins : (file : LusFile) (at : Place) → IsFirst file at.1 → at.0.ticks ≡ 0 → Begins (file_tree file) at
+first_begins file at first none = record {
+  after = subst (λ f. IsAfter f [] at.1) (ap file_tree first.file) (first_after at.1 first.begun first.free);
+  none = none;
 }
 
-stops_clear : (fault : FlowFault) (f : FileTree) (first : Option (List ℕ)) (trace : Trace) (s : Standing) →
-    (fault ≢ Put → s.waiting ≡ []) → FlowsTo fault f first trace s → StoppedBy fault f trace first s.put
-stops_clear Read f first trace s none stop = absurd stop
-stops_clear Put f first trace s none stop = record { front = stop.front; lines = stop.lines }
-stops_clear (Bad bad) f first trace s none stop = record {
-  first_bad = stop.first_bad;
-  free = stop.free;
-  lines = all_put [] s.waiting (flow_lines f trace.rows) first s.put refl (none (λ e. cc)) stop.lines;
-}
-stops_clear (StuckFault at) f first trace s none stop = record {
-  stuck = stop.stuck;
-  lines = all_put [] s.waiting (flow_lines f trace.rows) first s.put refl (none (λ e. cc)) stop.lines;
-}
-stops_clear Memory f first trace s none stop = absurd stop
+module _ (f : FileTree) (at : Place) (begins : Begins f at) (put put' : Option (List ℕ)) where
+  none_ticked : HasTicked f [] at
+  none_ticked = record { after = begins.after; count = begins.none }
 
--- the same of a result that hands an error on
-pub handed_on : (result : Result ℕ FlowFault) (fault : FlowFault) (f : FileTree) (trace : Trace) (put put' : Option (List ℕ)) →
-    result ≡ Err fault → StoppedBy fault f trace put put' → Ends result f trace put put'
-handed_on result fault f trace put put' is stop = subst (λ (r : Result ℕ FlowFault). Ends r f trace put put') (sym is) stop
+  -- the rows of lines that were walked over, and of those after them
+  rows_are : (before behind : List (List ℕ)) (text : List ℕ) (at' : Place) (on : TicksOn f [] before text at at') →
+      trace_of f (before ++ behind) ≡ with_rows on.more (plain_rows_after at'.0.ticks (row_size f) behind)
+  rows_are before behind text at' on =
+      ap (λ n. plain_rows_after n (row_size f) (before ++ behind)) (sym begins.none) ∙ on.reads behind
 
--- a walk never ends for want of memory, or by an error of reading
-pub is_walked : (fault : FlowFault) (f : FileTree) (first : Option (List ℕ)) (trace : Trace) (s : Standing) →
-    FlowsTo fault f first trace s → (fault ≢ Read) × (fault ≢ Memory)
-is_walked Read f first trace s stop = absurd stop
-is_walked Put f first trace s stop = ((λ e. cc), (λ e. cc))
-is_walked (Bad bad) f first trace s stop = ((λ e. cc), (λ e. cc))
-is_walked (StuckFault at) f first trace s stop = ((λ e. cc), (λ e. cc))
-is_walked Memory f first trace s stop = absurd stop
+  -- ---- All lines
 
--- ---- Bytes
+  all_trace : (lines : List (List ℕ)) (text : List ℕ) (at' : Place) (on : TicksOn f [] lines text at at') →
+      trace_of f lines ≡ record { rows = on.more; bad = None }
+  all_trace lines text at' on =
+      ap (trace_of f) (sym (append-nil lines)) ∙ rows_are lines [] text at' on
+      ∙ ap (λ (rows : List (List ℤ)). record { rows = rows; bad = None }) (append-nil on.more)
 
--- a line of the bytes ends the walk
-pub text_stops : (fault : FlowFault) (f : FileTree) (text : List ℕ) (s s' : Standing) → HasFlowed f s.put [] s →
-    (fault ≢ Put → s'.waiting ≡ []) → StopsIn fault text s s' → StoppedBy fault f (flow_trace f text) s.put s'.put
-text_stops fault f text s s' start none stop =
-    subst (λ t. StoppedBy fault f (flow_trace f t) s.put s'.put) (append-nil text)
-    (stops_clear fault f s.put (flow_trace f (text ++ [])) s' none (stop f s.put [] [] start))
+  walks_whole : (lines : List (List ℕ)) (at' : Place) → WalksAll steps said lines (place at put []) (place at' put' []) →
+      RanAll at'.0.ticks f (trace_of f lines) put put'
+  walks_whole lines at' walks =
+      let on = all_ticked f [] lines walks.text at at' none_ticked walks.walked in
+      subst (λ t. RanAll at'.0.ticks f t put put') (sym (all_trace lines walks.text at' on))
+      (record {
+        count = on.ticked.count;
+        whole = record {
+          rows_only = refl;
+          free = free_after f on.more at'.1 on.ticked.after;
+          lines = all_put [] [] walks.text put put' refl refl walks.takes ∙ ap (append_known put) (sym on.printed);
+        };
+      })
 
--- the last line ends the walk
-pub last_stops : (fault : FlowFault) (f : FileTree) (text : List ℕ) (done : ℕ) (s s' s'' : Standing) → HasFlowed f s.put [] s →
-    (fault ≢ Put → s''.waiting ≡ []) → FlowsLines done text s s' → EndsLast (Err fault) (drop done text) s' s'' →
-    StoppedBy fault f (flow_trace f text) s.put s''.put
-last_stops fault f text done s s' s'' start none lines last =
-    subst (λ t. StoppedBy fault f (flow_trace f t) s.put s''.put) (take-append-drop done text)
-    (stops_clear fault f s.put (flow_trace f (take done text ++ drop done text)) s'' none
-    (last f s.put (take done text) (lines.through f s.put [] start)))
+  -- ---- Some first lines
 
-pub text_ends : (f : FileTree) (text : List ℕ) (done : ℕ) (s s' s'' : Standing) → HasFlowed f s.put [] s → s''.waiting ≡ [] →
-    FlowsLines done text s s' → EndsLast (Ok tt) (drop done text) s' s'' → RanAll s''.ticks f (flow_trace f text) s.put s''.put
-text_ends f text done s s' s'' start none lines last =
-    subst (λ t. RanAll s''.ticks f (flow_trace f t) s.put s''.put) (take-append-drop done text)
-    (ends_clear f s.put (flow_trace f (take done text ++ drop done text)) s'' none
-    (last f s.put (take done text) (lines.through f s.put [] start)))
+  module _ (lines : List (List ℕ)) (front : Front steps said lines at) where
+    front_on : TicksOn f [] front.before front.text at front.last
+    front_on = all_ticked f [] front.before front.text at front.last none_ticked front.walked
 
--- ---- Pieces of a file
+    front_trace : trace_of f lines
+        ≡ with_rows front_on.more (plain_rows_after front.last.0.ticks (row_size f) front.behind)
+    front_trace = ap (trace_of f) front.parts ∙ rows_are front.before front.behind front.text front.last front_on
 
--- a walk that has taken some of a file: whole lines, whose rows have ticked, and these bytes
-pub record Reads (f : FileTree) (first : Option (List ℕ)) (bytes : List ℕ) (from to : Source) (s : Standing) : Type 0 where
-  pub head : List ℕ
-  pub took : HasRead (head ++ bytes) from to
-  pub flowed : HasFlowed f first head s
+  stops_cut : (lines : List (List ℕ)) (at' : Place) → CutAfter steps said stops lines (place at put []) (place at' put' []) →
+      StoppedByPut f (trace_of f lines) put put'
+  stops_cut lines at' cut =
+      let on = front_on lines cut.front in
+      let behind = (plain_rows_after cut.front.last.0.ticks (row_size f) cut.front.behind).rows in
+      record {
+        front = record {
+          rows = on.more;
+          behind = behind;
+          parts = ap (λ (t : Trace). t.rows) (front_trace lines cut.front);
+        };
+        lines = subst (λ t. PutsFront put put' t) (sym on.printed) cut.cuts;
+      }
 
-pub reads_none : (f : FileTree) (first : Option (List ℕ)) (bytes : List ℕ) (from : Source) (s : Standing) → bytes ≡ [] →
-    HasFlowed f first [] s → Reads f first bytes from from s
-reads_none f first bytes from s none start = record {
-  head = [];
-  took = subst (λ b. HasRead b from from) (sym none) (read_nothing from);
-  flowed = start;
-}
+  stops_bad : (bad : BadLine) (lines : List (List ℕ)) (at' : Place) →
+      StopsAt steps said stops (stop.Bad bad) lines (place at put []) (place at' put' []) →
+      StoppedAtLine bad f (trace_of f lines) put put'
+  stops_bad bad lines at' stopped =
+      let front = stopped.front in
+      let on = front_on lines front in
+      let here = subst (λ n. IsNoRow bad stopped.first.line front.last.0.ticks n) (ap (λ g. row_size g) on.ticked.after.tree)
+      stopped.first.ends in
+      let is : trace_of f lines ≡ record { rows = on.more; bad = Some bad } =
+      front_trace lines front
+      ∙ ap (λ ls. with_rows on.more (plain_rows_after front.last.0.ticks (row_size f) ls)) stopped.first.parts
+      ∙ ap (with_rows on.more) (here stopped.first.behind)
+      ∙ ap (λ (rows : List (List ℤ)). record { rows = rows; bad = Some bad }) (append-nil on.more) in
+      subst (λ t. StoppedAtLine bad f t put put') (sym is)
+      (record {
+        first_bad = refl;
+        free = free_after f on.more front.last.1 on.ticked.after;
+        lines = all_put [] [] front.text put put' refl refl stopped.takes ∙ ap (append_known put) (sym on.printed);
+      })
 
-pub reads_on : (f : FileTree) (first : Option (List ℕ)) (count : ℕ) (bytes bytes' : List ℕ) (from to to' : Source) (s : Standing) →
-    Reads f first bytes from to s → ReadsOn count bytes bytes' to to' → Reads f first bytes' from to' s
-reads_on f first count bytes bytes' from to to' s so_far more = record {
-  head = so_far.head;
-  took =
-      subst (λ b. HasRead b from to') (append_assoc so_far.head bytes more.piece ∙ ap (λ b. so_far.head ++ b) (sym more.bytes))
-      (read_both (so_far.head ++ bytes) more.piece from to to' so_far.took more.read);
-  flowed = so_far.flowed;
-}
+  stops_stuck : (place' : LusStuck) (lines : List (List ℕ)) (at' : Place) →
+      StopsAt steps said stops (stop.Stuck place') lines (place at put []) (place at' put' []) →
+      StoppedStuck place' f (trace_of f lines) put put'
+  stops_stuck place' lines at' stopped =
+      let front = stopped.front in
+      let on = front_on lines front in
+      let sticks = stopped.first.ends in
+      let row = sticks.row in
+      let is_row = sized f on.more front.last.1 row stopped.first.line front.last.0.ticks on.ticked.after sticks.is_row in
+      let more = (plain_rows_after (front.last.0.ticks + 1) (row_size f) stopped.first.behind).rows in
+      let rows : (trace_of f lines).rows ≡ on.more ++ row ∷ more =
+      ap (λ (t : Trace). t.rows) (front_trace lines front
+      ∙ ap (λ ls. with_rows on.more (plain_rows_after front.last.0.ticks (row_size f) ls)) stopped.first.parts
+      ∙ ap (with_rows on.more) (is_row.reads stopped.first.behind)) in
+      record {
+        stuck = ap (λ rs. (flows f rs).stuck_place) rows
+            ∙ stuck_next f on.more more front.last.1 at'.1 row place' on.ticked.after sticks.stuck;
+        lines = all_put [] [] front.text put put' refl refl stopped.takes
+            ∙ ap (append_known put) (sym on.printed ∙ stuck_lines f on.more more front.last.1 at'.1 row place' on.ticked.after sticks.stuck
+            ∙ ap (flow_lines f) (sym rows));
+      }
 
-pub lines_read : (f : FileTree) (first : Option (List ℕ)) (done : ℕ) (bytes : List ℕ) (from to : Source) (s s' : Standing) →
-    Reads f first bytes from to s → FlowsLines done bytes s s' → Reads f first (drop done bytes) from to s'
-lines_read f first done bytes from to s s' so_far lines = record {
-  head = so_far.head ++ take done bytes;
-  took =
-      subst (λ b. HasRead b from to) (ap (λ b. so_far.head ++ b) (sym (take-append-drop done bytes))
-      ∙ sym (append_assoc so_far.head (take done bytes) (drop done bytes))) so_far.took;
-  flowed = lines.through f first so_far.head so_far.flowed;
-}
+  -- ---- A file
 
--- the file can't be read on
-pub read_stops : (f : FileTree) (first : Option (List ℕ)) (bytes : List ℕ) (from to : Source) (s : Standing) → s.waiting ≡ [] →
-    BeginsLine bytes → Reads f first bytes from to s → RunsOver (Err Read) f from to first s.put
-read_stops f first bytes from to s none begins reads =
-    let flowed = reads.flowed in
-    let rows = flowed.rows in
-    let whole : whole_flow_trace f (reads.head ++ bytes) ≡ record { rows = rows ++ []; bad = None } =
-    flowed.writes.whole bytes
-    ∙ ap (λ ls. with_rows rows (plain_rows_after (0 + length rows) (row_size f) ls)) begins.no_whole in
-    let same : rows ≡ (whole_flow_trace f (reads.head ++ bytes)).rows = sym (ap (λ (t : Trace). t.rows) whole ∙ append-nil rows) in
-    record {
-      parts = record { taken = reads.head ++ bytes; left = left_of to.rest };
-      took = reads.took;
-      left = is_left to.rest;
-      ends = record {
-        rows_only = ap (λ (t : Trace). t.bad) whole;
-        free = subst (λ xs. (flows f xs).stuck_place ≡ None) same (free_after f rows s.flows flowed.after);
-        lines = all_put [] s.waiting (flow_lines f rows) first s.put refl none flowed.lines
-            ∙ ap (λ xs. append_known first (flow_lines f xs)) same;
-      };
-    }
+  pub walks_over : (from to : Source) (at' : Place) →
+      WalksFile steps said stops (Ok tt) from to (place at put []) (place at' put' []) →
+      RunsOver (Ok at'.0.ticks) f from to put put'
+  walks_over from to at' walks = record {
+    parts = record { taken = walks.parts.taken; left = walks.parts.left };
+    took = walks.took;
+    left = walks.left;
+    ends = walks_whole _ at' walks.ends;
+  }
 
--- a walk over the file is one over what was taken and what is left
-stop_over : (fault : FlowFault) (f : FileTree) (parts : Parts) (put put' : Option (List ℕ)) →
-    StoppedBy fault f (file_trace f parts) put put' →
-    fault ≢ Memory → StoppedReading fault f parts put put'
-stop_over Read f parts put put' stop other = absurd stop
-stop_over Put f parts put put' stop other = stop
-stop_over (Bad bad) f parts put put' stop other = stop
-stop_over (StuckFault at) f parts put put' stop other = stop
-stop_over Memory f parts put put' stop other = absurd (other refl)
-
-over_handed : (result : Result ℕ FlowFault) (fault : FlowFault) (f : FileTree) (from to : Source) (put put' : Option (List ℕ)) →
-    result ≡ Err fault → RunsOver (Err fault) f from to put put' → RunsOver result f from to put put'
-over_handed result fault f from to put put' is over = subst (λ (r : Result ℕ FlowFault). RunsOver r f from to put put') (sym is) over
-
--- a line of a piece ends the walk
-pub lines_stop : (result : Result ℕ FlowFault) (fault : FlowFault) (f : FileTree) (first : Option (List ℕ)) (bytes : List ℕ)
-    (from to : Source) (s s' : Standing) → result ≡ Err fault → (fault ≢ Put → s'.waiting ≡ []) → Reads f first bytes from to s →
-    StopsIn fault bytes s s' → RunsOver result f from to first s'.put
-lines_stop result fault f first bytes from to s s' is none reads stop =
-    let left = left_of to.rest in
-    let here = stop f first reads.head left reads.flowed in
-    over_handed result fault f from to first s'.put is
-    (record {
-      parts = record { taken = reads.head ++ bytes; left = left };
-      took = reads.took;
-      left = is_left to.rest;
-      ends =
-          stop_over fault f (record { taken = reads.head ++ bytes; left = left }) first s'.put
-          (subst (λ t. StoppedBy fault f (flow_trace f t) first s'.put) (sym (append_assoc reads.head bytes left))
-          (stops_clear fault f first (flow_trace f (reads.head ++ (bytes ++ left))) s' none here))
-          (is_walked fault f first _ s' here).1;
-    })
-
--- at the end of a file what was taken is all of it
-all_taken : (taken : List ℕ) (rest : Option (List ℕ)) → IsAtEnd rest → taken ≡ taken ++ left_of rest
-all_taken taken rest end = sym (ap (λ l. taken ++ l) (none_left rest end) ∙ append-nil taken)
-
--- the last line ends the walk
-pub last_stop : (result : Result ℕ FlowFault) (fault : FlowFault) (f : FileTree) (first : Option (List ℕ)) (bytes : List ℕ)
-    (from to : Source) (s s' : Standing) → result ≡ Err fault → (fault ≢ Put → s'.waiting ≡ []) → IsAtEnd to.rest →
-    Reads f first bytes from to s → EndsLast (Err fault) bytes s s' → RunsOver result f from to first s'.put
-last_stop result fault f first bytes from to s s' is none end reads last =
-    let here = last f first reads.head reads.flowed in
-    over_handed result fault f from to first s'.put is
-    (record {
-      parts = record { taken = reads.head ++ bytes; left = left_of to.rest };
-      took = reads.took;
-      left = is_left to.rest;
-      ends =
-          stop_over fault f (record { taken = reads.head ++ bytes; left = left_of to.rest }) first s'.put
-          (subst (λ t. StoppedBy fault f (flow_trace f t) first s'.put) (all_taken (reads.head ++ bytes) to.rest end)
-          (stops_clear fault f first (flow_trace f (reads.head ++ bytes)) s' none here))
-          (is_walked fault f first _ s' here).1;
-    })
-
-pub file_ends : (f : FileTree) (first : Option (List ℕ)) (bytes : List ℕ) (from to : Source) (s s' : Standing) → s'.waiting ≡ [] →
-    IsAtEnd to.rest → Reads f first bytes from to s → EndsLast (Ok tt) bytes s s' → RunsOver (Ok s'.ticks) f from to first s'.put
-file_ends f first bytes from to s s' none end reads last = record {
-  parts = record { taken = reads.head ++ bytes; left = left_of to.rest };
-  took = reads.took;
-  left = is_left to.rest;
-  ends =
-      subst (λ t. RanAll s'.ticks f (flow_trace f t) first s'.put) (all_taken (reads.head ++ bytes) to.rest end)
-      (ends_clear f first (flow_trace f (reads.head ++ bytes)) s' none (last f first reads.head reads.flowed));
-}
+  pub stops_over : (fault : StreamFault FlowStop) (from to : Source) (at' : Place) →
+      WalksFile steps said stops (Err fault) from to (place at put []) (place at' put' []) →
+      RunsOver (Err (flow_fault fault)) f from to put put'
+  stops_over stream.Read from to at' walks = record {
+    parts = record { taken = walks.parts.taken; left = walks.parts.left };
+    took = walks.took;
+    left = walks.left;
+    ends = (walks_whole _ at' walks.ends).whole;
+  }
+  stops_over stream.Put from to at' walks = record {
+    parts = record { taken = walks.parts.taken; left = walks.parts.left };
+    took = walks.took;
+    left = walks.left;
+    ends = stops_cut _ at' walks.ends;
+  }
+  stops_over (stream.Line (stop.Bad bad)) from to at' walks = record {
+    parts = record { taken = walks.parts.taken; left = walks.parts.left };
+    took = walks.took;
+    left = walks.left;
+    ends = stops_bad bad _ at' walks.ends;
+  }
+  stops_over (stream.Line (stop.Stuck place')) from to at' walks = record {
+    parts = record { taken = walks.parts.taken; left = walks.parts.left };
+    took = walks.took;
+    left = walks.left;
+    ends = stops_stuck place' _ at' walks.ends;
+  }
 
 -- nothing was read
 pub nothing_read : (f : FileTree) (from : Source) (put : Option (List ℕ)) → RunsOver (Err Memory) f from from put put

@@ -12,7 +12,19 @@ use Rattle.lustre_flows.specs.Flows.{Flows, flows, flows_from, flows_after}
 use Rattle.lustre_interpreter.specs.States.{FlowState, tree_of, left_of, by_place, next_tick, IsTicked, IsStuckTick}
 use Rattle.tool_runner.specs.Texts.{outputs_line}
 use Rattle.tool_flow_runner.specs.FlowTraces.{flow_lines}
-use Rattle.tool_flow_runner.specs.Walks.{behind_ticks, IsAfter}
+
+-- ---- Flows after some rows
+
+-- flows after these ticks
+abbrev pub behind_ticks : List Instance → Flows → Flows
+behind_ticks ticks later = record { ticks = ticks ++ later.ticks; stuck_place = later.stuck_place }
+
+-- these rows have ticked, and whatever rows follow go on from here
+pub record IsAfter (f : FileTree) (rows : List (List ℤ)) (s : FlowState) : Type 0 where
+  pub tree : tree_of s ≡ f
+  pub unstuck : s.stuck_place ≡ None
+  pub ticks : List Instance
+  pub goes_on : (more : List (List ℤ)) → flows f (rows ++ more) ≡ behind_ticks ticks (flows_from f more (left_of s))
 
 -- the lines of the outputs of these ticks
 abbrev pub lines_of : FileTree → List Instance → List ℕ

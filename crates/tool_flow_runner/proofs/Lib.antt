@@ -1,4 +1,3 @@
 pub mod FlowLaws
 pub mod Steps
-pub mod Walks
 pub mod Files

@@ -1,5 +1,5 @@
 pub mod FlowTraces
 pub mod Runs
-pub mod Ticks
-pub mod Walks
+pub mod Faults
+pub mod Lines
 pub mod Examples

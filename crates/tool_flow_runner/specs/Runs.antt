@@ -44,25 +44,6 @@ pub record RanAll (ticks : ℕ) (f : FileTree) (trace : Trace) (put put' : Optio
   pub count : ticks ≡ length trace.rows
   pub whole : RanWhole f trace put put'
 
--- ---- Over bytes
-
--- What flows over bytes are stopped by. Memory is taken before the first row, so that nothing has
--- changed without it.
-abbrev pub StoppedBy : FlowFault → FileTree → Trace → (put put' : Option (List ℕ)) → Type 0
-StoppedBy fault.Read f trace put put' = ⊥
-StoppedBy fault.Put f trace put put' = StoppedByPut f trace put put'
-StoppedBy (fault.Bad bad) f trace put put' = StoppedAtLine bad f trace put put'
-StoppedBy (fault.Stuck at) f trace put put' = StoppedStuck at f trace put put'
-StoppedBy fault.Memory f trace put put' = put' ≡ put
-
--- what flows over a trace come to, by their result
-abbrev pub Ends : Result ℕ FlowFault → FileTree → Trace → (put put' : Option (List ℕ)) → Type 0
-Ends result f trace put put' =
-    MatchResult result (λ ticks. RanAll ticks f trace put put')
-    (λ fault. StoppedBy fault f trace put put')
-
--- ---- Over a file
-
 -- the rows of the whole file, and those of the whole lines among what was taken
 abbrev pub file_trace : FileTree → Parts → Trace
 file_trace f parts = flow_trace f (parts.taken ++ parts.left)

@@ -5,4 +5,4 @@ mod rows;
 mod walk;
 
 pub use rows::read_plain_row;
-pub use walk::{last_plain_row, next_plain_row};
+pub use walk::{long_plain_row, next_plain_row};
