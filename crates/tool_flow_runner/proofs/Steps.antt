@@ -64,7 +64,8 @@ all_ticked f rows [] text at at' ticked walked =
       more = [];
       reads = λ behind. ap (λ (a : Place). plain_rows_after a.0.ticks (row_size f) behind) (sym same);
       ticked = subst (λ rs. HasTicked f rs at') (sym (append-nil rows)) (subst (HasTicked f rows) (sym same) ticked);
-      printed = ap (flow_lines f) (append-nil rows) ∙ sym (append-nil (flow_lines f rows)) ∙ ap (λ t. flow_lines f rows ++ t) (sym walked.0);
+      printed =
+          ap (flow_lines f) (append-nil rows) ∙ sym (append-nil (flow_lines f rows)) ∙ ap (λ t. flow_lines f rows ++ t) (sym walked.0);
     }
 all_ticked f rows (line ∷ lines) text at at' ticked walked =
     let next = walked.0 in

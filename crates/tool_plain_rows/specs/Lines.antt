@@ -6,7 +6,8 @@ use Rattle.tool_traces.specs.Rows.{most_lines}
 use Rattle.tool_traces.specs.Pieces.{with_rows}
 use Rattle.tool_plain_rows.specs.PlainRows.{plain_rows_after}
 
--- after so many lines a line is this row of so many numbers, and the rows of the lines after it follow
+-- after so many lines a line is this row of so many numbers, and the rows of the lines after it
+-- follow
 pub record IsRow (row : List ℤ) (line : List ℕ) (count size : ℕ) : Type 0 where
   pub fewer : count < most_lines
   pub reads : (behind : List (List ℕ)) → plain_rows_after count size (line ∷ behind)

@@ -16,8 +16,8 @@ pub record Parts : Type 0 where
 abbrev pub file_lines : Parts → List (List ℕ)
 file_lines parts = lines (parts.taken ++ parts.left)
 
--- What a walk over a file is stopped by. Where it can't be read on, each whole line among what was taken
--- was walked over.
+-- What a walk over a file is stopped by. Where it can't be read on, each whole line among what was
+-- taken was walked over.
 abbrev pub StopsReading : {A E : Type 0} (steps : A → List ℕ → A → Type 0) (said : A → List ℕ)
     (stops : A → List ℕ → E → A → Type 0) → StreamFault E → Parts → Place A → Place A → Type 0
 StopsReading steps said stops fault.Read parts s s' =
@@ -27,7 +27,8 @@ StopsReading steps said stops fault.Put parts s s' =
 StopsReading steps said stops (fault.Line stop) parts s s' =
     StopsOver steps said stops (fault.Line stop) (file_lines parts) s s'
 
--- it was a walk over a file: what was taken of it in the call, and what is left where the host tells it
+-- what was taken of a file in the call, what is left of it where that is reported, and what the walk
+-- over its lines comes to
 pub record WalksFile {A E : Type 0} (steps : A → List ℕ → A → Type 0) (said : A → List ℕ)
     (stops : A → List ℕ → E → A → Type 0) (result : Result (Unit {0}) (StreamFault E))
     (from to : Source) (s s' : Place A) : Type 0 where

@@ -1,5 +1,5 @@
--- What a walk over lines comes to. What a line does is said by `steps` and `stops`, and what it gives to
--- print by `said`.
+-- What a walk over lines comes to. What a line does is said by `steps` and `stops`, and its output
+-- by `said`.
 use Rattle.std.specs.Prelude.{◌≡◌, ◌⊎◌, ℕ, ◌≤◌, List, [], ◌∷◌, ◌++◌, length, take, drop, Option, Result, MatchResult}
 use Rattle.std.specs.Str.Lines.{lines}
 use Rattle.base_host.specs.Files.{PutsFront}
@@ -9,8 +9,8 @@ use Rattle.tool_traces.specs.Pieces.{BeginsLine}
 use Rattle.tool_stream.specs.declared.fault.StreamFault.{StreamFault}
 use Rattle.tool_stream.specs.declared.fault.StreamFault.TheVariants as fault
 
--- where a walk is: its state, what was printed, where the sink tells it, and the text that waits to be
--- printed
+-- where a walk is: its state, what was printed, where the sink reports it, and the text that waits
+-- to be printed
 pub record Place (A : Type 0) : Type 0 where
   pub at : A
   pub put : Option (List ℕ)

@@ -31,7 +31,8 @@ returns-in_err-walk_line-in-Line-clause-walked g c =
     let s' = place (c.loop-start.walk, c.loop-start.machine) (g.S.Sink.bytes c.loop-start.sink) c.loop-start.waiting in
     let s'' =
     place (c.walk_line.new.walk, c.walk_line.new.machine) (g.S.Sink.bytes c.walk_line.new.sink) c.walk_line.new.waiting in
-    text_handed g.W.LineWalk.steps (λ a. g.W.LineWalk.said a.0) g.W.LineWalk.stops c.from_residual.result c.in_err-walk_line-in-Line.field-0.0
+    text_handed g.W.LineWalk.steps (λ a. g.W.LineWalk.said a.0) g.W.LineWalk.stops c.from_residual.result
+    c.in_err-walk_line-in-Line.field-0.0
     c.args.text.now s s'' (p.1 ∙ ap (λ f. Err f) p.2)
     (line_ends g.W.LineWalk.steps (λ a. g.W.LineWalk.said a.0) g.W.LineWalk.stops c.in_err-walk_line-in-Line.field-0.0 c.args.text.now
     c.loop-start.at _ _ _ s s' s'' c.loop-start.invariant.up_to (shows c.args.text.now c.loop-start.at _ c.in-Line.ensures)

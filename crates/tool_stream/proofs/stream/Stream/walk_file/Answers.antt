@@ -47,7 +47,8 @@ returns-then-count-eq0-clause-walked g c =
     reads_on g.W.LineWalk.steps (λ a. g.W.LineWalk.said a.0) g.W.LineWalk.stops c.in-Ok.count c.loop-count.self.read.bytes
     c.fill.new.self.bytes _ _ _ s s' c.loop-count.invariant.reads c.in-Ok.ensures.more in
     last_over g.W.LineWalk.steps (λ a. g.W.LineWalk.said a.0) g.W.LineWalk.stops c.walk_last.result c.fill.new.self.bytes _
-    (source (g.H.Host.rest c.fill.new.host) (g.H.Host.given c.fill.new.host)) s s' (c.walk_last.new.walk, c.walk_last.new.machine) put c.walk_last.new.waiting c.walk_last.ensures.empty
+    (source (g.H.Host.rest c.fill.new.host) (g.H.Host.given c.fill.new.host)) s s'
+    (c.walk_last.new.walk, c.walk_last.new.machine) put c.walk_last.new.waiting c.walk_last.ensures.empty
     (c.in-Ok.ensures.end c.if-count-eq0.true) reads
     (subst (λ t. WalksOver g.W.LineWalk.steps (λ a. g.W.LineWalk.said a.0) g.W.LineWalk.stops c.walk_last.result (lines t) s'
     (place (c.walk_last.new.walk, c.walk_last.new.machine) put c.walk_last.new.waiting)) c.bytes.ensures c.walk_last.ensures.walked)
@@ -65,10 +66,12 @@ returns-in_err-done-clause-walked g c =
     over_handed g.W.LineWalk.steps (λ a. g.W.LineWalk.said a.0) g.W.LineWalk.stops c.from_residual.result fault _ _ s _
     (p.1 ∙ ap (λ f. Err f) p.2)
     (lines_stop g.W.LineWalk.steps (λ a. g.W.LineWalk.said a.0) g.W.LineWalk.stops fault c.fill.new.self.bytes _
-    (source (g.H.Host.rest c.fill.new.host) (g.H.Host.given c.fill.new.host)) s s' (c.walk_lines.new.walk, c.walk_lines.new.machine) put c.walk_lines.new.waiting
+    (source (g.H.Host.rest c.fill.new.host) (g.H.Host.given c.fill.new.host)) s s'
+    (c.walk_lines.new.walk, c.walk_lines.new.machine) put c.walk_lines.new.waiting
     (λ other. c.in_err-done.ensures.empty (λ e. let same : fault ≡ Put = cc in other same)) reads
     (subst (λ t. (behind : List ℕ) → StopsOver g.W.LineWalk.steps (λ a. g.W.LineWalk.said a.0) g.W.LineWalk.stops fault
-    (lines (t ++ behind)) s' (place (c.walk_lines.new.walk, c.walk_lines.new.machine) put c.walk_lines.new.waiting)) c.bytes-in-loop-count.ensures c.in_err-done.ensures.walked))
+    (lines (t ++ behind)) s' (place (c.walk_lines.new.walk, c.walk_lines.new.machine) put c.walk_lines.new.waiting))
+    c.bytes-in-loop-count.ensures c.in_err-done.ensures.walked))
 
 pub loop-count-preserved : goal.loop-count-preserved
 loop-count-preserved g c =
