@@ -1,13 +1,13 @@
 -- What is inside at one place of two subsystems that are the same is the same.
 use Rattle.std.specs.Prelude.{◌≡◌, ℕ, zero, suc, ◌+◌, ◌-◌, ◌≤◌, ◌<◌, Bool, true, false, ◌==◌, ◌||◌, ◌&&◌, MatchBool, List, [], ◌∷◌, map, length, slice_get, Option, Some, None, ◌⊎◌, ⊤}
 use Rattle.std.specs.List.{AllZip, AllByRecursion, range_with_len}
-use Rattle.std.proofs.Common.{refl, sym, ◌∙◌, ap, subst, arith, inl, inr, true≢false, true-eqb, eq-eqb}
+use Rattle.std.proofs.Common.{refl, sym, ◌∙◌, ap, subst, arith, inl, inr, true≢false, true-eqb}
 use Rattle.std.proofs.lemmas.Bool.{and_right, cases_lt, false_from_ne_true}
 use Rattle.base_core.specs.declared.Control.{Control}
 use Rattle.base_core.specs.declared.Control.TheVariants.{Plain}
 use Rattle.base_fixed_point.specs.declared.FixType.{FixType}
 use Rattle.diagram_blocks.specs.declared.Kind.{Kind}
-use Rattle.diagram_blocks.specs.declared.Kind.TheVariants.{Inport, Outport, SubSystem, Constant, Ground, Terminator, Gain, Sum, Product, UnitDelay, Delay, ZeroOrderHold, Switch, Relational, Logic, Convert, RateTransition, EnablePort, TriggerPort}
+use Rattle.diagram_blocks.specs.declared.Kind.TheVariants.{Inport, Outport, SubSystem}
 use Rattle.diagram_blocks.specs.Kinds.{control_of, is_inport, is_subsystem}
 use Rattle.diagram_meaning.specs.declared.table.Row.{Row}
 use Rattle.diagram_meaning.specs.Rows.{row_at, same_system, is_inside, is_inport_of}
@@ -16,7 +16,7 @@ use Rattle.diagram_meaning.specs.Diagram.{Diagram, type_at}
 use Rattle.diagram_meaning.specs.ResolvedTree.{diagram_of}
 use Rattle.diagram_same.specs.Same.{role_of, IsMoved, IsMovedOwner, AreAlike, AreSame, rows_inside}
 use Rattle.diagram_same.specs.declared.role.Role.{Role}
-use Rattle.diagram_same.specs.declared.role.Role.TheVariants.{Input, Output, Subsystem, Other}
+use Rattle.diagram_same.specs.declared.role.Role.TheVariants.{Subsystem}
 use Rattle.diagram_same.specs.Laws.{InnerAreSame}
 use Rattle.diagram_same.proofs.SameSubsystems.{moved-tests}
 use Rattle.diagram_same.proofs.lemmas.Interiors as interiors
@@ -25,31 +25,14 @@ use Rattle.diagram_same.proofs.lemmas.Zips.{zip-at, zip-each, long-zip, range-at
 -- ---- Controls
 
 abbrev role_control : Role → Control
-role_control (Input port) = Plain
-role_control (Output port reset num den) = Plain
 role_control (Subsystem control) = control
-role_control Other = Plain
+role_control _ = Plain
 
 control-role : (kind : Kind) → control_of kind ≡ role_control (role_of kind)
 control-role (Inport port) = refl
 control-role (Outport port reset initial) = refl
 control-role (SubSystem control) = refl
-control-role (Constant value) = refl
-control-role Ground = refl
-control-role Terminator = refl
-control-role (Gain gain how) = refl
-control-role (Sum count minus how) = refl
-control-role (Product count how) = refl
-control-role (UnitDelay initial) = refl
-control-role (Delay length initial) = refl
-control-role ZeroOrderHold = refl
-control-role (Switch criterion threshold how) = refl
-control-role (Relational compare) = refl
-control-role (Logic op count) = refl
-control-role (Convert how) = refl
-control-role (RateTransition initial out) = refl
-control-role EnablePort = refl
-control-role TriggerPort = refl
+control-role _ = refl
 
 no-input : (kind : Kind) → is_subsystem kind ≡ true → is_inport kind ≡ false
 no-input (SubSystem control) is = refl

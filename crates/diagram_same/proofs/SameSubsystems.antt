@@ -3,13 +3,13 @@ use Rattle.std.specs.Prelude.{◌≡◌, ℕ, ◌+◌, Bool, true, false, ◌==�
 use Rattle.std.specs.List.{AllZip}
 use Rattle.std.proofs.Common.{refl, sym, ◌∙◌, ap, subst, arith, true-eqb, eq-eqb}
 use Rattle.diagram_blocks.specs.declared.Kind.{Kind}
-use Rattle.diagram_blocks.specs.declared.Kind.TheVariants.{Inport, Outport, SubSystem, Constant, Ground, Terminator, Gain, Sum, Product, UnitDelay, Delay, ZeroOrderHold, Switch, Relational, Logic, Convert, RateTransition, EnablePort, TriggerPort}
+use Rattle.diagram_blocks.specs.declared.Kind.TheVariants.{Inport, Outport, SubSystem}
 use Rattle.diagram_blocks.specs.Kinds.{is_inport}
 use Rattle.diagram_meaning.specs.Rows.{row_at, same_system, is_inport_of}
 use Rattle.diagram_meaning.specs.Diagram.{Diagram}
 use Rattle.diagram_same.specs.Same.{role_of, IsMoved, IsMovedOwner, AreAlike, AreSame, rows_inside}
 use Rattle.diagram_same.specs.declared.role.Role.{Role}
-use Rattle.diagram_same.specs.declared.role.Role.TheVariants.{Input, Output, Subsystem, Other}
+use Rattle.diagram_same.specs.declared.role.Role.TheVariants.{Input}
 use Rattle.diagram_same.specs.Laws.{SameIsEquivalence}
 
 -- ---- Two lists, place by place
@@ -37,30 +37,13 @@ zip-through R S T each (x ∷ xs) (y ∷ ys) (z ∷ zs) a b = (each x y z a.0 b.
 
 abbrev is_input : Role → Bool
 is_input (Input port) = true
-is_input (Output port reset num den) = false
-is_input (Subsystem control) = false
-is_input Other = false
+is_input _ = false
 
 input-role : (kind : Kind) → is_inport kind ≡ is_input (role_of kind)
 input-role (Inport port) = refl
 input-role (Outport port reset initial) = refl
 input-role (SubSystem control) = refl
-input-role (Constant value) = refl
-input-role Ground = refl
-input-role Terminator = refl
-input-role (Gain gain how) = refl
-input-role (Sum count minus how) = refl
-input-role (Product count how) = refl
-input-role (UnitDelay initial) = refl
-input-role (Delay length initial) = refl
-input-role ZeroOrderHold = refl
-input-role (Switch criterion threshold how) = refl
-input-role (Relational compare) = refl
-input-role (Logic op count) = refl
-input-role (Convert how) = refl
-input-role (RateTransition initial out) = refl
-input-role EnablePort = refl
-input-role TriggerPort = refl
+input-role _ = refl
 
 same-test : (s t : Bool) → (s ≡ true → t ≡ true) → (t ≡ true → s ≡ true) → s ≡ t
 same-test true t to from = sym (to refl)

@@ -16,7 +16,7 @@ row_of class = class.first.row
 abbrev pub rows_of : List Class → List ℕ
 rows_of list = map row_of list
 
--- what stands for a class past the end
+-- what is read as a class past the end
 abbrev pub no_class : Class
 no_class = record { first = record { row = 0; end = 0 }; earlier = None }
 

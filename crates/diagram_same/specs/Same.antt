@@ -4,7 +4,7 @@ use Rattle.std.specs.Prelude.{◌≡◌, ℕ, ◌+◌, ◌≤◌, MatchBool, Lis
 use Rattle.std.specs.List.{AllZip}
 use Rattle.base_fixed_point.specs.declared.FixType.{FixType}
 use Rattle.diagram_blocks.specs.declared.Kind.{Kind}
-use Rattle.diagram_blocks.specs.declared.Kind.TheVariants.{Inport, Outport, SubSystem, Constant, Ground, Terminator, Gain, Sum, Product, UnitDelay, Delay, ZeroOrderHold, Switch, Relational, Logic, Convert, RateTransition, EnablePort, TriggerPort}
+use Rattle.diagram_blocks.specs.declared.Kind.TheVariants.{Inport, Outport, SubSystem}
 use Rattle.diagram_meaning.specs.declared.table.Row.{Row}
 use Rattle.diagram_meaning.specs.declared.times.Time.{Time}
 use Rattle.diagram_blocks.specs.Kinds.{is_subsystem}
@@ -19,29 +19,14 @@ abbrev pub role_of : Kind → Role
 role_of (Inport port) = Input port
 role_of (Outport port reset initial) = Output port reset initial.num initial.den
 role_of (SubSystem control) = Subsystem control
-role_of (Constant value) = Other
-role_of Ground = Other
-role_of Terminator = Other
-role_of (Gain gain how) = Other
-role_of (Sum count minus how) = Other
-role_of (Product count how) = Other
-role_of (UnitDelay initial) = Other
-role_of (Delay length initial) = Other
-role_of ZeroOrderHold = Other
-role_of (Switch criterion threshold how) = Other
-role_of (Relational compare) = Other
-role_of (Logic op count) = Other
-role_of (Convert how) = Other
-role_of (RateTransition initial out) = Other
-role_of EnablePort = Other
-role_of TriggerPort = Other
+role_of _ = Other
 
 -- two sample times have the same ticks
 pub record AreEqualTimes (a b : Time) : Type 0 where
   pub period : a.period ≡ b.period
   pub offset : a.offset ≡ b.offset
 
--- row b stands as far behind row e as row c behind row f
+-- row b is as far after row e as row c after row f
 abbrev pub IsMoved : (e f b c : ℕ) → Type 0
 IsMoved e f b c = b + f ≡ c + e
 

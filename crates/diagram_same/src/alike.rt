@@ -130,7 +130,7 @@ fn are_equal_times(a: Time, b: Time) -> bool
     a.period == b.period && a.offset == b.offset
 }
 
-/// Whether the owners of two rows are as far behind two subsystems.
+/// Whether the owners of two rows are as far after two subsystems.
 fn is_moved_owner(e: u32, f: u32, b: Option<u32>, c: Option<u32>) -> bool
     ensures { (result ≡ true) ↔ IsMovedOwner e f b c }
 {
@@ -141,14 +141,14 @@ fn is_moved_owner(e: u32, f: u32, b: Option<u32>, c: Option<u32>) -> bool
     }
 }
 
-/// Whether row `b` is as far behind `e` as row `c` behind `f`.
+/// Whether row `b` is as far after `e` as row `c` after `f`.
 fn is_moved(e: u32, f: u32, b: u32, c: u32) -> bool
     ensures { (result ≡ true) ↔ IsMoved e f b c }
 {
     b as u64 + f as u64 == c as u64 + e as u64
 }
 
-/// Whether the rows of two lists are as far behind two subsystems, place by place.
+/// Whether the rows of two lists are as far after two subsystems, place by place.
 fn are_moved(e: u32, f: u32, bs: &[u32], cs: &[u32]) -> bool
     ensures { (result ≡ true) ↔ AllZip (IsMoved e f) bs.now cs.now }
 {

@@ -16,7 +16,7 @@ use Rattle.tool_runner.specs.declared.outcome.RunFault.TheVariants.{Read, Out, T
 use Rattle.tool_runner.specs.Ticks.{Standing}
 use Rattle.tool_runner.specs.Runs.{no_totals, ticks_over, HasRun, RanWhole, StoppedBy, Ends, Parts, file_rows, StoppedReading, RunsOver}
 use Rattle.tool_runner.specs.Walks.{RunsThrough, RunsLines, RunsTo}
-use Rattle.tool_runner.proofs.lemmas.FilePieces.{left_of, is_left, none_left}
+use Rattle.tool_stream.proofs.lemmas.FilePieces.{left_of, is_left, none_left}
 use Rattle.tool_runner.proofs.Walks.{none_through, both_through, stops_in, ends_in, EndsLast, clear, runs_clear, stops_clear, ends_clear}
 
 -- before the first tick, the rows after no line are all

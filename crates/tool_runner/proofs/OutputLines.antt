@@ -5,7 +5,7 @@ use Rattle.std.proofs.lemmas.Grind.{flat_map-append}
 use Rattle.std.proofs.lemmas.List.{append-nil, take-append-drop}
 use Rattle.base_host.specs.Files.{PutsFront}
 use Rattle.base_host.specs.Buffers.{PutsAllBut}
-use Rattle.tool_runner.proofs.lemmas.Waiting.{both_texts, front_of_more, front_of_error}
+use Rattle.tool_stream.proofs.lemmas.Waiting.{both_texts, front_of_more, front_of_error}
 use Rattle.std.proofs.Math.Seq.{take-length}
 use Rattle.std.specs.Fmt.{signed_decimal}
 use Rattle.std.specs.List.{join_with_byte}

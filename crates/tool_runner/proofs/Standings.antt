@@ -19,7 +19,7 @@ use Rattle.tool_runner.specs.Texts.{outputs_line, ticks_text}
 use Rattle.tool_runner.specs.Ticks.{Standing, counted, Takes, Ticked, StuckOn}
 use Rattle.tool_runner.specs.Runs.{totals_of, added, ticks_over, HasTicked}
 use Rattle.tool_runner.specs.Walks.{Runs}
-use Rattle.tool_runner.proofs.lemmas.Waiting.{nothing, both_texts, front_of_more}
+use Rattle.tool_stream.proofs.lemmas.Waiting.{nothing, both_texts, front_of_more}
 
 -- ---- Rows
 

@@ -24,7 +24,7 @@ use Rattle.tool_runner.specs.Ticks.{Standing, standing, IsNarrower, Takes, Ticks
 use Rattle.tool_runner.specs.Runs.{totals_of, added, ticks_over, HasRun, RanWhole, StoppedBy}
 use Rattle.tool_runner.specs.declared.run.Run.{Run}
 use Rattle.tool_runner.specs.Walks.{inside, IsFilled, Runs, RunsThrough, RunsLines, RunsToEnd, RunsToLine, RunsToOut, RunsTo}
-use Rattle.tool_runner.proofs.lemmas.Waiting.{nothing, flushed, cut, all_put}
+use Rattle.tool_stream.proofs.lemmas.Waiting.{nothing, flushed, cut, all_put}
 use Rattle.tool_runner.proofs.Standings.{ticks_behind, both_ticked, both_run, both_cut, none_run, one_ticked, first_stuck, added-none}
 
 -- ---- Texts that write rows

@@ -6,7 +6,7 @@ use Rattle.std.proofs.lemmas.List.Sums.{sum_by-append}
 use Rattle.base_host.specs.Files.{PutsFront}
 use Rattle.tool_runner.specs.declared.outcome.Totals.{Totals}
 use Rattle.tool_runner.specs.Runs.{added}
-use Rattle.tool_runner.proofs.lemmas.Waiting.{nothing, both_texts, front_of_more}
+use Rattle.tool_stream.proofs.lemmas.Waiting.{nothing, both_texts, front_of_more}
 use Rattle.right_claim.specs.Scripts.{Call, out_with, update_with}
 use Rattle.tool_driver.specs.Driven.{updates}
 use Rattle.tool_driver.specs.States.{DriverState}

@@ -8,8 +8,8 @@ use Rattle.base_host.specs.Reading.{Source, HasRead}
 use Rattle.base_host.specs.Buffers.{ReadsOn}
 use Rattle.base_host.proofs.lemmas.ReadLaws.{read_nothing, read_both}
 use Rattle.tool_runner.specs.Runs.{Parts}
-use Rattle.tool_runner.proofs.lemmas.Waiting.{all_put}
-use Rattle.tool_runner.proofs.lemmas.FilePieces.{left_of, is_left, none_left}
+use Rattle.tool_stream.proofs.lemmas.Waiting.{all_put}
+use Rattle.tool_stream.proofs.lemmas.FilePieces.{left_of, is_left, none_left}
 use Rattle.tool_traces.specs.Pieces.{BeginsLine}
 use Rattle.tool_driver.specs.Counts.{input_counts}
 use Rattle.tool_driver.specs.Shapes.{inputs_of}

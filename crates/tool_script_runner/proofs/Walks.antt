@@ -5,7 +5,7 @@ use Rattle.std.specs.Io.KnownBytes.{append_known}
 use Rattle.std.proofs.lemmas.List.{append-nil, length-append, take-append-drop}
 use Rattle.std.proofs.Math.Seq.{take-add}
 use Rattle.base_host.specs.Files.{PutsFront}
-use Rattle.tool_runner.proofs.lemmas.Waiting.{flushed, cut}
+use Rattle.tool_stream.proofs.lemmas.Waiting.{flushed, cut}
 use Rattle.right_claim.specs.Scripts.{Call}
 use Rattle.tool_driver.specs.States.{DriverState}
 use Rattle.tool_scripts.specs.declared.walk.BadCall.{BadCall}

@@ -171,7 +171,7 @@ module _ (rows : List Row) (nested : IsNested rows) where
             | inr there ↦ let late = after e it.owner (omega arith) there in omega (arith, late, one)
           ]
 
-  -- behind the first row that isn't inside e there is none
+  -- after the first row that isn't inside e there is none
   pub none-behind : (e last n b : ℕ) → e < last → b ≡ last + n → b < length rows → is_inside rows (Some e) last ≡ false →
       is_inside rows (Some e) b ≡ false
   none-behind e last zero b late is below out = ap (is_inside rows (Some e)) (is ∙ omega arith) ∙ out

@@ -4,7 +4,7 @@ use Rattle.std.specs.Prelude.{OnOk, OnErr}
 use Rattle.std.specs.Fmt.{signed_decimal}
 use Rattle.base_host.specs.Files.{PutsFront}
 use Rattle.base_host.specs.Buffers.{PutsAllBut}
-use Rattle.tool_runner.proofs.lemmas.Waiting.{text_then, front_then, front_of_error}
+use Rattle.tool_stream.proofs.lemmas.Waiting.{text_then, front_then, front_of_error}
 use Rattle.tool_runner.proofs.line.put_behind.Goals as goal
 
 pub returns-in_err-put-clause-front : goal.returns-in_err-put-clause-front

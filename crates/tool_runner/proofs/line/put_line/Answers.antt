@@ -1,7 +1,7 @@
 use Rattle.std.proofs.Common.{[], ◌∷◌, map}
 use Rattle.std.specs.Fmt.{signed_decimal}
 use Rattle.std.specs.List.{join_with_byte}
-use Rattle.tool_runner.proofs.lemmas.Waiting.{text_then, front_then, front_of_error}
+use Rattle.tool_stream.proofs.lemmas.Waiting.{text_then, front_then, front_of_error}
 use Rattle.tool_runner.proofs.line.put_line.Goals as goal
 
 pub returns-in_err-put_numbers-clause-front : goal.returns-in_err-put_numbers-clause-front

@@ -3,7 +3,7 @@ use Rattle.std.specs.Prelude.{Err}
 use Rattle.tool_traces.specs.Pieces.{rows_after}
 use Rattle.tool_runner.specs.declared.outcome.RunFault.TheVariants.{Out}
 use Rattle.tool_runner.specs.Walks.{inside}
-use Rattle.tool_runner.proofs.lemmas.Waiting.{if_err, if_ok}
+use Rattle.tool_stream.proofs.lemmas.Waiting.{if_err, if_ok}
 use Rattle.tool_runner.proofs.Walks.{last_flushed, last_cut}
 use Rattle.tool_runner.proofs.lines.run_last.Goals as goal
 use Rattle.tool_runner.proofs.lines.run_last.Goals.{in-Err+in-Read-1, in-Ok-1}

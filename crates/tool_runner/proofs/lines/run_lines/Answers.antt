@@ -2,7 +2,7 @@ use Rattle.std.proofs.Common.{◌≢◌, rules}
 use Rattle.std.specs.Prelude.{Err}
 use Rattle.tool_runner.specs.declared.outcome.RunFault.TheVariants.{Out}
 use Rattle.tool_runner.specs.Walks.{inside}
-use Rattle.tool_runner.proofs.lemmas.Waiting.{if_err, if_ok}
+use Rattle.tool_stream.proofs.lemmas.Waiting.{if_err, if_ok}
 use Rattle.tool_runner.proofs.Walks.{lines_flushed, lines_cut}
 use Rattle.tool_runner.proofs.lines.run_lines.Goals as goal
 use Rattle.tool_runner.proofs.lines.run_lines.Goals.{in-Err+in-Read-1, in-Ok-1}

@@ -8,7 +8,7 @@ use Rattle.tool_runner.specs.Runs.{RunsOver}
 use Rattle.tool_runner.specs.Ticks.{standing}
 use Rattle.tool_runner.specs.Walks.{inside, RunsLines, RunsTo}
 use Rattle.tool_runner.proofs.Walks.{EndsLast}
-use Rattle.tool_runner.proofs.lemmas.FilePieces.{begins_none}
+use Rattle.tool_stream.proofs.lemmas.FilePieces.{begins_none}
 use Rattle.tool_runner.proofs.Files.{Reads, reads_none, reads_on, lines_read, read_stops, lines_stop, file_ends, never_read}
 use Rattle.tool_runner.proofs.trace_file.run_pieces.Goals as goal
 

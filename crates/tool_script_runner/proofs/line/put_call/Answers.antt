@@ -1,6 +1,6 @@
 use Rattle.std.specs.Prelude.{codes}
 use Rattle.tool_runner.specs.Texts.{outputs_line}
-use Rattle.tool_runner.proofs.lemmas.Waiting.{text_then, front_then, front_of_error}
+use Rattle.tool_stream.proofs.lemmas.Waiting.{text_then, front_then, front_of_error}
 use Rattle.tool_script_runner.proofs.line.put_call.Goals as goal
 
 pub returns-in_err-put-clause-front : goal.returns-in_err-put-clause-front

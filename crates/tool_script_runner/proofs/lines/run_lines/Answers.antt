@@ -1,6 +1,6 @@
 use Rattle.std.proofs.Common.{◌≢◌, rules, length}
 use Rattle.std.specs.Prelude.{Err}
-use Rattle.tool_runner.proofs.lemmas.Waiting.{if_err, if_ok}
+use Rattle.tool_stream.proofs.lemmas.Waiting.{if_err, if_ok}
 use Rattle.tool_driver.specs.Shapes.{inputs_of}
 use Rattle.tool_script_runner.specs.declared.outcome.ScriptFault.TheVariants.{Out}
 use Rattle.tool_script_runner.specs.Walks.{inside}

@@ -2,7 +2,7 @@ use Rattle.std.proofs.Common.{◌≡◌, [], ◌++◌, ◌∙◌, refl, ap, sym,
 use Rattle.std.specs.Prelude.{Err}
 use Rattle.std.proofs.lemmas.Result.{err_from_is_err_and}
 use Rattle.base_host.specs.Reading.{source}
-use Rattle.tool_runner.proofs.lemmas.FilePieces.{begins_none}
+use Rattle.tool_stream.proofs.lemmas.FilePieces.{begins_none}
 use Rattle.tool_traces.specs.Pieces.{BeginsLine}
 use Rattle.tool_driver.specs.Shapes.{Shape, inputs_of}
 use Rattle.tool_scripts.specs.Pieces.{calls_after}
