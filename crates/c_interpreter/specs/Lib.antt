@@ -10,6 +10,7 @@ pub mod Sound
 pub mod Seen
 pub mod Codes
 pub mod Frames
+pub mod Statements
 pub mod Roots
 pub mod Instances
 pub mod Numbering

@@ -20,7 +20,7 @@ use crate::instances::counts_of;
 use crate::layouts::layouts_of;
 use crate::names::{are_logged, field_named, procedure_named};
 use crate::slots::{Layout, Slot, number_in};
-use crate::statements::run_procedure;
+use crate::statements::{Invocation, run_procedure};
 use c_syntax::{Cost, Field, Program, Stuck};
 use std::alloc::{AllocError, Global};
 
@@ -45,7 +45,12 @@ pub(crate) fn run_root(
         values: &[],
     };
     let mut cost = Cost { steps: 0, calls: 0 };
-    match run_procedure(&frame, procedure, root, inputs, numbers, &mut cost) {
+    let invocation = Invocation {
+        procedure,
+        of: root,
+        arguments: inputs,
+    };
+    match run_procedure(&frame, &invocation, numbers, &mut cost) {
         Ok(()) => Ok(cost),
         Err(halt) => Err(halt.place()),
     }

@@ -1,8 +1,8 @@
 // What statements do to the numbers of an instance.
 ghost use Rattle.std.specs.Prelude.{◌≡◌, ◌≤◌, ◌<◌, ◌+◌, List, length, map, slice_index_or, Some, false, if◌then◌else◌};
 ghost use Rattle.c_syntax.specs.declared.fault.Cost.{Cost};
-ghost use Rattle.c_syntax.specs.Plain.{expr_tree, cond_tree, stmt_tree};
-ghost use Rattle.c_syntax.specs.Tree.{assign, assign_at, branch, call, exprs_of_list, stmts_of_list, type_at};
+ghost use Rattle.c_syntax.specs.Plain.{stmt_tree};
+ghost use Rattle.c_syntax.specs.Tree.{stmts_of_list, type_at};
 ghost use Rattle.c_semantics.specs.Machine.{store, store_at, on_target, routine_at};
 ghost use Rattle.c_semantics.specs.Cells.{items_at};
 ghost use Rattle.c_interpreter.specs.Codes.{IsReadyCode};
@@ -11,13 +11,57 @@ ghost use Rattle.c_interpreter.specs.Seen.{seen, ended, IsCounted, IsStepped};
 ghost use Rattle.c_interpreter.specs.Slots.{layout_at};
 ghost use Rattle.c_interpreter.specs.Sound.{IsNumberField, IsArrayField, IsInstanceField, IsCallOf, IsProcedureOf, zero_at};
 ghost use Rattle.c_interpreter.specs.States.{filled};
+ghost use Rattle.c_interpreter.specs.Statements.{assignment_tree, branch_tree, call_tree, item_assignment_tree};
 
 use crate::arithmetic::{is_in_type, take_step};
-use crate::frames::{Frame, holds, place_of, put_arguments, value_of};
+use crate::frames::{Environment, Frame};
 use crate::halts::{Halt, Verdict};
 use crate::slots::Slot;
 use crate::values::{FEW, first_of, first_of_few};
 use c_syntax::{CType, Cond, Cost, Expr, Stmt, Target, Why};
+
+/// A store of a value in a number field of the frame's instance.
+#[derive(Drop)]
+struct Assignment<'a> {
+    line: u32,
+    field: u32,
+    value: &'a Expr,
+}
+
+/// A store of a value in an item of an array field of the frame's instance.
+#[derive(Drop)]
+struct ItemAssignment<'a> {
+    line: u32,
+    field: u32,
+    index: &'a Expr,
+    value: &'a Expr,
+}
+
+/// A choice between statements.
+#[derive(Drop)]
+struct Branch<'a> {
+    line: u32,
+    test: &'a Cond,
+    on_true: &'a [Stmt],
+    on_false: &'a [Stmt],
+}
+
+/// A statement that calls a procedure, by its position, on a target.
+#[derive(Drop)]
+struct Call<'a> {
+    line: u32,
+    procedure: u32,
+    target: Target,
+    values: &'a [Expr],
+}
+
+/// A procedure, by its position, with the struct of its instance and its arguments.
+#[derive(Drop)]
+pub(crate) struct Invocation<'a> {
+    pub(crate) procedure: usize,
+    pub(crate) of: u32,
+    pub(crate) arguments: &'a [i64],
+}
 
 #[inline(always)]
 fn slot_at(frame: &Frame, field: u32) -> Option<Slot>
@@ -94,49 +138,54 @@ fn store(frame: &Frame, line: u32, field: u32, value: i64, numbers: &mut [i64]) 
 #[inline(always)]
 fn set_field(
     frame: &Frame,
-    line: u32,
-    field: u32,
-    e: &Expr,
+    assignment: &Assignment,
     numbers: &mut [i64],
     cost: &mut Cost,
 ) -> Result<(), Halt>
-    requires sound { IsSoundIn frame.now (assign line field (expr_tree e.now)) }
+    requires sound { IsSoundIn frame.now (assignment_tree assignment.now) }
     requires room { length numbers.old ≡ size_in frame.now }
     requires counted { IsCounted cost.old }
     ensures ran { left_in frame.now result numbers.new cost.new
-        ≡ run_in frame.now (assign line field (expr_tree e.now)) numbers.old cost.old }
+        ≡ run_in frame.now (assignment_tree assignment.now) numbers.old cost.old }
     ensures counted { IsCounted cost.new }
 {
+    let Assignment { line, field, value } = *assignment;
     take_step(line, &mut cost.steps)?;
-    match value_of(frame, numbers, line, e, &mut cost.steps) {
+    let environment = Environment {
+        frame,
+        numbers,
+        line,
+    };
+    match environment.value_of(value, &mut cost.steps) {
         Ok(value) => store(frame, line, field, value, numbers),
         Err(at) => Err(at),
     }
 }
 
-// Stores a number in an item of an array, if it is in the type of the items.
+// Stores a number at a place of the array that an assignment is of, if it is in the type of the items.
 fn store_at(
     frame: &Frame,
-    line: u32,
-    field: u32,
+    assignment: &ItemAssignment,
     place: usize,
     value: i64,
     numbers: &mut [i64],
 ) -> Result<(), Halt>
     requires room { length numbers.old ≡ size_in frame.now }
-    requires array { IsArrayField (tree_in frame.now) frame.now.of field }
-    requires inside { place < length (items_at (cells_in frame.now numbers.old) field) }
+    requires array { IsArrayField (tree_in frame.now) frame.now.of assignment.now.field }
+    requires inside { place
+        < length (items_at (cells_in frame.now numbers.old) assignment.now.field) }
     ensures { (cost : Cost) → left_in frame.now result numbers.new cost
         ≡ seen cost.calls
-        (store_at line (type_at (scope_in frame.now).types field) field place value
+        (store_at assignment.now.line
+        (type_at (scope_in frame.now).types assignment.now.field) assignment.now.field place value
         (cells_in frame.now numbers.old) cost.steps) }
 {
-    let (at, _, of) = array_slot(frame, field);
+    let (at, _, of) = array_slot(frame, assignment.field);
     if is_in_type(of, value) {
         numbers[at + place] = value;
         Ok(())
     } else {
-        Err(Halt::at(line, Why::Range))
+        Err(Halt::at(assignment.line, Why::Range))
     }
 }
 
@@ -144,25 +193,27 @@ fn store_at(
 #[inline(never)]
 fn set_item(
     frame: &Frame,
-    line: u32,
-    field: u32,
-    index: &Expr,
-    e: &Expr,
+    assignment: &ItemAssignment,
     numbers: &mut [i64],
     cost: &mut Cost,
 ) -> Result<(), Halt>
-    requires sound { IsSoundIn frame.now (assign_at line field (expr_tree index.now) (expr_tree e.now)) }
+    requires sound { IsSoundIn frame.now (item_assignment_tree assignment.now) }
     requires room { length numbers.old ≡ size_in frame.now }
     requires counted { IsCounted cost.old }
     ensures ran { left_in frame.now result numbers.new cost.new
-        ≡ run_in frame.now (assign_at line field (expr_tree index.now) (expr_tree e.now))
-        numbers.old cost.old }
+        ≡ run_in frame.now (item_assignment_tree assignment.now) numbers.old cost.old }
     ensures counted { IsCounted cost.new }
 {
+    let line = assignment.line;
     take_step(line, &mut cost.steps)?;
-    let place = place_of(frame, numbers, line, field, index, &mut cost.steps)?;
-    match value_of(frame, numbers, line, e, &mut cost.steps) {
-        Ok(value) => store_at(frame, line, field, place, value, numbers),
+    let environment = Environment {
+        frame,
+        numbers,
+        line,
+    };
+    let place = environment.place_of(assignment.field, assignment.index, &mut cost.steps)?;
+    match environment.value_of(assignment.value, &mut cost.steps) {
+        Ok(value) => store_at(frame, assignment, place, value, numbers),
         Err(at) => Err(at),
     }
 }
@@ -199,25 +250,56 @@ fn run(frame: &Frame, stmt: &Stmt, numbers: &mut [i64], cost: &mut Cost) -> Resu
     ensures counted { IsCounted cost.new }
 {
     match stmt {
-        Stmt::Set { line, field, value } => set_field(frame, *line, *field, value, numbers, cost),
+        Stmt::Set { line, field, value } => {
+            let assignment = Assignment {
+                line: *line,
+                field: *field,
+                value,
+            };
+            set_field(frame, &assignment, numbers, cost)
+        }
         Stmt::SetAt {
             line,
             field,
             index,
             value,
-        } => set_item(frame, *line, *field, index, value, numbers, cost),
+        } => {
+            let assignment = ItemAssignment {
+                line: *line,
+                field: *field,
+                index,
+                value,
+            };
+            set_item(frame, &assignment, numbers, cost)
+        }
         Stmt::If {
             line,
             test,
             yes,
             no,
-        } => run_if(frame, *line, test, yes, no, numbers, cost),
+        } => {
+            let branch = Branch {
+                line: *line,
+                test,
+                on_true: yes,
+                on_false: no,
+            };
+            run_if(frame, &branch, numbers, cost)
+        }
         Stmt::Call {
             line,
             procedure,
             target,
             values,
-        } => { run_call(frame, *line, *procedure, *target, values, numbers, cost) }
+        } => {
+            let call = Call {
+                line: *line,
+                procedure: *procedure,
+                target: *target,
+                values,
+            };
+            run_call(frame, &call, numbers, cost)
+        }
     }
 }
 
@@ -225,27 +307,26 @@ fn run(frame: &Frame, stmt: &Stmt, numbers: &mut [i64], cost: &mut Cost) -> Resu
 #[inline(never)]
 fn run_if(
     frame: &Frame,
-    line: u32,
-    test: &Cond,
-    on_true: &[Stmt],
-    on_false: &[Stmt],
+    branch: &Branch,
     numbers: &mut [i64],
     cost: &mut Cost,
 ) -> Result<(), Halt>
-    requires sound { IsSoundIn frame.now (branch line (cond_tree test.now)
-        (stmts_of_list (map stmt_tree on_true.now)) (stmts_of_list (map stmt_tree on_false.now))) }
+    requires sound { IsSoundIn frame.now (branch_tree branch.now) }
     requires room { length numbers.old ≡ size_in frame.now }
     requires counted { IsCounted cost.old }
     ensures ran { left_in frame.now result numbers.new cost.new
-        ≡ run_in frame.now
-        (branch line (cond_tree test.now) (stmts_of_list (map stmt_tree on_true.now))
-        (stmts_of_list (map stmt_tree on_false.now))) numbers.old cost.old }
+        ≡ run_in frame.now (branch_tree branch.now) numbers.old cost.old }
     ensures counted { IsCounted cost.new }
 {
-    take_step(line, &mut cost.steps)?;
-    match holds(frame, numbers, line, test, &mut cost.steps) {
-        Verdict::Holds => run_all(frame, on_true, numbers, cost),
-        Verdict::Fails => run_all(frame, on_false, numbers, cost),
+    take_step(branch.line, &mut cost.steps)?;
+    let environment = Environment {
+        frame,
+        numbers,
+        line: branch.line,
+    };
+    match environment.holds(branch.test, &mut cost.steps) {
+        Verdict::Holds => run_all(frame, branch.on_true, numbers, cost),
+        Verdict::Fails => run_all(frame, branch.on_false, numbers, cost),
         Verdict::Halts(at) => Err(at),
     }
 }
@@ -254,30 +335,23 @@ fn run_if(
 #[inline(never)]
 fn run_call(
     frame: &Frame,
-    line: u32,
-    procedure: u32,
-    target: Target,
-    values: &[Expr],
+    call: &Call,
     numbers: &mut [i64],
     cost: &mut Cost,
 ) -> Result<(), Halt>
-    requires sound { IsSoundIn frame.now
-        (call line procedure target (exprs_of_list (map expr_tree values.now))) }
+    requires sound { IsSoundIn frame.now (call_tree call.now) }
     requires room { length numbers.old ≡ size_in frame.now }
     requires counted { IsCounted cost.old }
     ensures ran { left_in frame.now result numbers.new cost.new
-        ≡ run_in frame.now (call line procedure target (exprs_of_list (map expr_tree values.now)))
-        numbers.old cost.old }
+        ≡ run_in frame.now (call_tree call.now) numbers.old cost.old }
     ensures counted { IsCounted cost.new }
 {
-    if values.len() <= FEW {
+    if call.values.len() <= FEW {
         let mut room = [0; FEW];
-        let arguments = first_of_few(&mut room, values.len());
-        call_into(
-            frame, line, procedure, target, values, arguments, numbers, cost,
-        )
+        let arguments = first_of_few(&mut room, call.values.len());
+        call_into(frame, call, arguments, numbers, cost)
     } else {
-        call_many(frame, line, procedure, target, values, numbers, cost)
+        call_many(frame, call, numbers, cost)
     }
 }
 
@@ -285,97 +359,88 @@ fn run_call(
 #[inline(never)]
 fn call_many(
     frame: &Frame,
-    line: u32,
-    procedure: u32,
-    target: Target,
-    values: &[Expr],
+    call: &Call,
     numbers: &mut [i64],
     cost: &mut Cost,
 ) -> Result<(), Halt>
-    requires sound { IsSoundIn frame.now
-        (call line procedure target (exprs_of_list (map expr_tree values.now))) }
+    requires sound { IsSoundIn frame.now (call_tree call.now) }
     requires room { length numbers.old ≡ size_in frame.now }
     requires counted { IsCounted cost.old }
     ensures ran { left_in frame.now result numbers.new cost.new
-        ≡ run_in frame.now (call line procedure target (exprs_of_list (map expr_tree values.now)))
-        numbers.old cost.old }
+        ≡ run_in frame.now (call_tree call.now) numbers.old cost.old }
     ensures counted { IsCounted cost.new }
 {
     let mut room = [0; 64];
-    let arguments = first_of(&mut room, values.len());
-    call_into(
-        frame, line, procedure, target, values, arguments, numbers, cost,
-    )
+    let arguments = first_of(&mut room, call.values.len());
+    call_into(frame, call, arguments, numbers, cost)
 }
 
 // A call, whose arguments are written into a room for them.
 #[cycle(statement)]
 fn call_into(
     frame: &Frame,
-    line: u32,
-    procedure: u32,
-    target: Target,
-    values: &[Expr],
+    call: &Call,
     arguments: &mut [i64],
     numbers: &mut [i64],
     cost: &mut Cost,
 ) -> Result<(), Halt>
-    requires sound { IsSoundIn frame.now
-        (call line procedure target (exprs_of_list (map expr_tree values.now))) }
+    requires sound { IsSoundIn frame.now (call_tree call.now) }
     requires room { length numbers.old ≡ size_in frame.now }
     requires counted { IsCounted cost.old }
-    requires space { length arguments.old ≡ length values.now }
+    requires space { length arguments.old ≡ length call.now.values.now }
     ensures ran { left_in frame.now result numbers.new cost.new
-        ≡ run_in frame.now (call line procedure target (exprs_of_list (map expr_tree values.now)))
-        numbers.old cost.old }
+        ≡ run_in frame.now (call_tree call.now) numbers.old cost.old }
     ensures counted { IsCounted cost.new }
 {
-    take_step(line, &mut cost.steps)?;
-    let callee = &frame.code.program().procedures[procedure as usize];
-    put_arguments(
+    take_step(call.line, &mut cost.steps)?;
+    let callee = &frame.code.program().procedures[call.procedure as usize];
+    let environment = Environment {
         frame,
         numbers,
-        line,
-        &callee.params,
-        values,
-        arguments,
-        &mut cost.steps,
-    )?;
-    run_at(frame, procedure, target, arguments, numbers, cost)
+        line: call.line,
+    };
+    environment.put_arguments(&callee.params, call.values, arguments, &mut cost.steps)?;
+    run_at(frame, call, arguments, numbers, cost)
 }
 
+// The procedure of a call, on its target.
 #[cycle(statement)]
 fn run_at(
     frame: &Frame,
-    procedure: u32,
-    target: Target,
+    call: &Call,
     arguments: &[i64],
     numbers: &mut [i64],
     cost: &mut Cost,
 ) -> Result<(), Halt>
-    requires there { IsCallOf (tree_in frame.now) frame.now.of procedure target }
-    requires earlier { procedure < frame.now.level }
+    requires there { IsCallOf (tree_in frame.now) frame.now.of call.now.procedure call.now.target }
+    requires earlier { call.now.procedure < frame.now.level }
     requires room { length numbers.old ≡ size_in frame.now }
     requires stepped { IsStepped cost.old }
     ensures ran { left_in frame.now result numbers.new cost.new
-        ≡ seen cost.old.calls (on_target target
-        ((routine_at (scope_in frame.now).routines procedure).run arguments.now)
+        ≡ seen cost.old.calls (on_target call.now.target
+        ((routine_at (scope_in frame.now).routines call.now.procedure).run arguments.now)
         (cells_in frame.now numbers.old) cost.old.steps) }
     ensures counted { IsCounted cost.new }
 {
-    match target {
-        Target::Own => run_procedure(
-            frame,
-            procedure as usize,
-            frame.of,
-            arguments,
-            numbers,
-            cost,
-        ),
+    let procedure = call.procedure as usize;
+    match call.target {
+        Target::Own => {
+            let invocation = Invocation {
+                procedure,
+                of: frame.of,
+                arguments,
+            };
+            run_procedure(frame, &invocation, numbers, cost)
+        }
         Target::Child(f) => {
             let (at, size, of) = instance_slot(frame, f);
             let inner = &mut numbers[at..at + size];
-            run_procedure(frame, procedure as usize, of, arguments, inner, cost)
+            let invocation = Invocation {
+                procedure,
+                of,
+                arguments,
+            };
+            run_procedure(frame, &invocation, inner, cost)
         }
     }
 }
@@ -384,29 +449,29 @@ fn run_at(
 #[cycle(statement)]
 pub(crate) fn run_procedure(
     frame: &Frame,
-    procedure: usize,
-    of: u32,
-    arguments: &[i64],
+    invocation: &Invocation,
     numbers: &mut [i64],
     cost: &mut Cost,
 ) -> Result<(), Halt>
-    requires there { IsProcedureOf (tree_in frame.now) procedure of }
-    requires earlier { procedure < frame.now.level }
-    requires room { length numbers.old ≡ (layout_at frame.now.code.layouts of).size }
+    requires there { IsProcedureOf (tree_in frame.now) invocation.now.procedure invocation.now.of }
+    requires earlier { invocation.now.procedure < frame.now.level }
+    requires room { length numbers.old
+        ≡ (layout_at frame.now.code.layouts invocation.now.of).size }
     requires stepped { IsStepped cost.old }
-    ensures ran { ended (zero_at (tree_in frame.now) of) result numbers.new cost.new
+    ensures ran { ended (zero_at (tree_in frame.now) invocation.now.of) result numbers.new cost.new
         ≡ seen cost.old.calls
-        ((routine_at (scope_in frame.now).routines procedure).run arguments.now
-        (filled (zero_at (tree_in frame.now) of) numbers.old) cost.old.steps) }
+        ((routine_at (scope_in frame.now).routines invocation.now.procedure).run
+        invocation.now.arguments.now
+        (filled (zero_at (tree_in frame.now) invocation.now.of) numbers.old) cost.old.steps) }
     ensures counted { IsCounted cost.new }
 {
-    let callee = &frame.code.program().procedures[procedure];
-    log_call(frame.code.logged(), procedure, cost);
+    let callee = &frame.code.program().procedures[invocation.procedure];
+    log_call(frame.code.logged(), invocation.procedure, cost);
     let inner = Frame {
         code: frame.code.again(),
-        level: procedure,
-        of,
-        values: arguments,
+        level: invocation.procedure,
+        of: invocation.of,
+        values: invocation.arguments,
     };
     run_all(&inner, &callee.body, numbers, cost)
 }

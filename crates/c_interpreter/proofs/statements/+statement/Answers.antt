@@ -99,7 +99,7 @@ pub run_at-run_procedure-requires : goal.run_at-run_procedure-requires
 run_at-run_procedure-requires t c = (
   omega arith,
   (
-    subst (λ (x : Target). IsCallOf (tree_in c.args.frame.now) c.args.frame.now.of c.args.procedure x) c.in-Own.is
+    subst (λ (x : Target). IsCallOf (tree_in c.args.frame.now) c.args.frame.now.of c.args.call.now.procedure x) c.in-Own.is
         c.requires.there,
     (c.requires.earlier, (c.requires.room, c.requires.stepped)),
   ),
@@ -108,8 +108,8 @@ run_at-run_procedure-requires t c = (
 pub run_at-overflow_add-inner : goal.run_at-overflow_add-inner
 run_at-overflow_add-inner t c =
     let there : (h : IsInstanceField (tree_in c.args.frame.now) c.args.frame.now.of c.in-Child.f)
-    × IsProcedureOf (tree_in c.args.frame.now) c.args.procedure h.struct =
-    subst (λ (x : Target). IsCallOf (tree_in c.args.frame.now) c.args.frame.now.of c.args.procedure x) c.in-Child.is
+    × IsProcedureOf (tree_in c.args.frame.now) c.args.call.now.procedure h.struct =
+    subst (λ (x : Target). IsCallOf (tree_in c.args.frame.now) c.args.frame.now.of c.args.call.now.procedure x) c.in-Child.is
     c.requires.there in
     let h = holds (tree_in c.args.frame.now) c.args.frame.now.code.layouts c.args.frame.now.code.logged
     c.args.frame.now.of c.in-Child.f c.args.numbers.now c.instance_slot-at.result.0 c.instance_slot-at.result.1
@@ -120,8 +120,8 @@ run_at-overflow_add-inner t c =
 pub run_at-offset_bounds-numbers-at : goal.run_at-offset_bounds-numbers-at
 run_at-offset_bounds-numbers-at t c =
     let there : (h : IsInstanceField (tree_in c.args.frame.now) c.args.frame.now.of c.in-Child.f)
-    × IsProcedureOf (tree_in c.args.frame.now) c.args.procedure h.struct =
-    subst (λ (x : Target). IsCallOf (tree_in c.args.frame.now) c.args.frame.now.of c.args.procedure x) c.in-Child.is
+    × IsProcedureOf (tree_in c.args.frame.now) c.args.call.now.procedure h.struct =
+    subst (λ (x : Target). IsCallOf (tree_in c.args.frame.now) c.args.frame.now.of c.args.call.now.procedure x) c.in-Child.is
     c.requires.there in
     let h = holds (tree_in c.args.frame.now) c.args.frame.now.code.layouts c.args.frame.now.code.logged
     c.args.frame.now.of c.in-Child.f c.args.numbers.now c.instance_slot-at.result.0 c.instance_slot-at.result.1
@@ -132,8 +132,8 @@ run_at-offset_bounds-numbers-at t c =
 pub run_at-slice_bounds-inner-end : goal.run_at-slice_bounds-inner-end
 run_at-slice_bounds-inner-end t c =
     let there : (h : IsInstanceField (tree_in c.args.frame.now) c.args.frame.now.of c.in-Child.f)
-    × IsProcedureOf (tree_in c.args.frame.now) c.args.procedure h.struct =
-    subst (λ (x : Target). IsCallOf (tree_in c.args.frame.now) c.args.frame.now.of c.args.procedure x) c.in-Child.is
+    × IsProcedureOf (tree_in c.args.frame.now) c.args.call.now.procedure h.struct =
+    subst (λ (x : Target). IsCallOf (tree_in c.args.frame.now) c.args.frame.now.of c.args.call.now.procedure x) c.in-Child.is
     c.requires.there in
     let h = holds (tree_in c.args.frame.now) c.args.frame.now.code.layouts c.args.frame.now.code.logged
     c.args.frame.now.of c.in-Child.f c.args.numbers.now c.instance_slot-at.result.0 c.instance_slot-at.result.1
@@ -145,8 +145,8 @@ run_at-slice_bounds-inner-end t c =
 pub run_at-run_procedure-requires-in-Child : goal.run_at-run_procedure-requires-in-Child
 run_at-run_procedure-requires-in-Child t c =
     let there : (h : IsInstanceField (tree_in c.args.frame.now) c.args.frame.now.of c.in-Child.f)
-    × IsProcedureOf (tree_in c.args.frame.now) c.args.procedure h.struct =
-    subst (λ (x : Target). IsCallOf (tree_in c.args.frame.now) c.args.frame.now.of c.args.procedure x) c.in-Child.is
+    × IsProcedureOf (tree_in c.args.frame.now) c.args.call.now.procedure h.struct =
+    subst (λ (x : Target). IsCallOf (tree_in c.args.frame.now) c.args.frame.now.of c.args.call.now.procedure x) c.in-Child.is
     c.requires.there in
     let h = holds (tree_in c.args.frame.now) c.args.frame.now.code.layouts c.args.frame.now.code.logged
     c.args.frame.now.of c.in-Child.f c.args.numbers.now c.instance_slot-at.result.0 c.instance_slot-at.result.1
@@ -154,7 +154,7 @@ run_at-run_procedure-requires-in-Child t c =
     c.instance_slot-at.ensures.slot in (
       omega arith,
       (
-        subst (λ (k : ℕ). IsProcedureOf (tree_in c.args.frame.now) c.args.procedure k) (sym h.struct_is) there.1,
+        subst (λ (k : ℕ). IsProcedureOf (tree_in c.args.frame.now) c.args.call.now.procedure k) (sym h.struct_is) there.1,
         (
           c.requires.earlier,
           (
@@ -169,8 +169,8 @@ run_at-run_procedure-requires-in-Child t c =
 pub run_at-returns-in-Child-clause-ran : goal.run_at-returns-in-Child-clause-ran
 run_at-returns-in-Child-clause-ran t c =
     let there : (h : IsInstanceField (tree_in c.args.frame.now) c.args.frame.now.of c.in-Child.f)
-    × IsProcedureOf (tree_in c.args.frame.now) c.args.procedure h.struct =
-    subst (λ (x : Target). IsCallOf (tree_in c.args.frame.now) c.args.frame.now.of c.args.procedure x) c.in-Child.is
+    × IsProcedureOf (tree_in c.args.frame.now) c.args.call.now.procedure h.struct =
+    subst (λ (x : Target). IsCallOf (tree_in c.args.frame.now) c.args.frame.now.of c.args.call.now.procedure x) c.in-Child.is
     c.requires.there in
     let h = holds (tree_in c.args.frame.now) c.args.frame.now.code.layouts c.args.frame.now.code.logged
     c.args.frame.now.of c.in-Child.f c.args.numbers.now c.instance_slot-at.result.0 c.instance_slot-at.result.1
@@ -185,11 +185,11 @@ run_at-returns-in-Child-clause-ran t c =
     let long : length c.run_procedure-in-Child.new.numbers ≡ size =
     c.run_procedure-in-Child.auto.numbers ∙ part_length numbers at size h.within in
     let cells : Cells = cells_in c.args.frame.now numbers in
-    target_left c.in-Child.f c.args.cost.now.calls c.args.cost.now.steps c.args.target cells cells
+    target_left c.in-Child.f c.args.cost.now.calls c.args.cost.now.steps c.args.call.now.target cells cells
     (zero_at (tree_in c.args.frame.now) c.args.frame.now.of) c.instance_slot-at.result.2 there.0.struct
     (zeros_of (tree_in c.args.frame.now)) c.run_procedure-in-Child.result c.run_procedure-in-Child.new.numbers _
     c.run_procedure-in-Child.new.cost
-    ((routine_at (scope_in c.args.frame.now).routines c.args.procedure).run c.args.arguments.now)
+    ((routine_at (scope_in c.args.frame.now).routines c.args.call.now.procedure).run c.args.arguments.now)
     (take (at + size - at) (drop at numbers)) c.in-Child.is h.struct_is (h.fields_are
     ∙ (λ i. filled (zero_at (tree_in c.args.frame.now) there.0.struct) (take (sym n i) (drop at numbers))))
     c.run_procedure-in-Child.ensures.ran (h.left c.run_procedure-in-Child.new.numbers long
@@ -198,7 +198,7 @@ run_at-returns-in-Child-clause-ran t c =
 
 pub call_many-first_of-arguments-requires : goal.call_many-first_of-arguments-requires
 call_many-first_of-arguments-requires t c =
-    omega (arith, exprs_length-list c.args.values.now, c.requires.sound.1.room)
+    omega (arith, exprs_length-list c.args.call.now.values.now, c.requires.sound.1.room)
 
 pub call_into-run_at-requires : goal.call_into-run_at-requires
 call_into-run_at-requires t c = (
@@ -216,47 +216,47 @@ pub call_into-returns-clause-ran : goal.call_into-returns-clause-ran
 call_into-returns-clause-ran t c =
     let q : ProcedureTree = c.requires.sound.1.procedure in
     let is : procedure_tree c.index-callee.result.now ≡ q =
-    found_is _ _ c.args.procedure q c.index-callee.result.now c.program.ensures.program c.requires.sound.1.there
+    found_is _ _ c.args.call.now.procedure q c.index-callee.result.now c.program.ensures.program c.requires.sound.1.there
     c.index-callee.ensures in
-    let same : (routine_at (scope_in c.args.frame.now).routines c.args.procedure).params
+    let same : (routine_at (scope_in c.args.frame.now).routines c.args.call.now.procedure).params
     ≡ map (λ x. x.1) c.deref.result.now =
     ap (λ (r : Routine). r.params)
     (routine_is (tree_in c.args.frame.now).structs (functions_of _ (tree_in c.args.frame.now).pures)
-    (tree_in c.args.frame.now).procedures c.args.procedure c.args.frame.now.level q c.requires.sound.2
+    (tree_in c.args.frame.now).procedures c.args.call.now.procedure c.args.frame.now.level q c.requires.sound.2
     c.requires.sound.1.there) ∙ (λ i. map (λ x. x.type) (sym is i).params) ∙ proc_params c.index-callee.result.now
     ∙ (λ i. map (λ x. x.1) (sym c.deref.ensures.value i)) in
-    call_gives (scope_in c.args.frame.now) c.args.line c.args.procedure c.args.cost.now.steps c.args.cost.now.calls _ _
-    c.args.target (map (λ x. x.1) c.deref.result.now) (exprs_of_list (map expr_tree c.args.values.now)) _ _ _
+    call_gives (scope_in c.args.frame.now) c.args.call.now.line c.args.call.now.procedure c.args.cost.now.steps c.args.cost.now.calls _ _
+    c.args.call.now.target (map (λ x. x.1) c.deref.result.now) (exprs_of_list (map expr_tree c.args.call.now.values.now)) _ _ _
     c.in_ok-take_step.ensures.taken same c.in_ok-put_arguments.ensures.value c.run_at.ensures.ran
 
 pub call_into-put_arguments-requires-clause-params : goal.call_into-put_arguments-requires-clause-params
 call_into-put_arguments-requires-clause-params t c =
     let q : ProcedureTree = c.requires.sound.1.procedure in
     let is : procedure_tree c.index-callee.result.now ≡ q =
-    found_is _ _ c.args.procedure q c.index-callee.result.now c.program.ensures.program c.requires.sound.1.there
+    found_is _ _ c.args.call.now.procedure q c.index-callee.result.now c.program.ensures.program c.requires.sound.1.there
     c.index-callee.ensures in
     let n : length c.deref.result.now ≡ length c.index-callee.result.now.params.items = ap length c.deref.ensures.value in
     let m : length (procedure_tree c.index-callee.result.now).params ≡ length q.params = λ i. length (is i).params in
-    omega (arith, proc_count c.index-callee.result.now, exprs_length-list c.args.values.now, c.requires.sound.1.count_is)
+    omega (arith, proc_count c.index-callee.result.now, exprs_length-list c.args.call.now.values.now, c.requires.sound.1.count_is)
 
 pub call_into-returns-in_err-put_arguments-clause-ran : goal.call_into-returns-in_err-put_arguments-clause-ran
 call_into-returns-in_err-put_arguments-clause-ran t c =
     let q : ProcedureTree = c.requires.sound.1.procedure in
     let is : procedure_tree c.index-callee.result.now ≡ q =
-    found_is _ _ c.args.procedure q c.index-callee.result.now c.program.ensures.program c.requires.sound.1.there
+    found_is _ _ c.args.call.now.procedure q c.index-callee.result.now c.program.ensures.program c.requires.sound.1.there
     c.index-callee.ensures in
-    let same : (routine_at (scope_in c.args.frame.now).routines c.args.procedure).params
+    let same : (routine_at (scope_in c.args.frame.now).routines c.args.call.now.procedure).params
     ≡ map (λ x. x.1) c.deref.result.now =
     ap (λ (r : Routine). r.params)
     (routine_is (tree_in c.args.frame.now).structs (functions_of _ (tree_in c.args.frame.now).pures)
-    (tree_in c.args.frame.now).procedures c.args.procedure c.args.frame.now.level q c.requires.sound.2
+    (tree_in c.args.frame.now).procedures c.args.call.now.procedure c.args.frame.now.level q c.requires.sound.2
     c.requires.sound.1.there) ∙ (λ i. map (λ x. x.type) (sym is i).params) ∙ proc_params c.index-callee.result.now
     ∙ (λ i. map (λ x. x.1) (sym c.deref.ensures.value i)) in
     grind (
       arith,
       common_steps,
-      call_sticks (scope_in c.args.frame.now) c.args.line c.args.procedure c.args.cost.now.steps c.args.cost.now.calls
-          _ c.args.target (map (λ x. x.1) c.deref.result.now) (exprs_of_list (map expr_tree c.args.values.now)) _ _
+      call_sticks (scope_in c.args.frame.now) c.args.call.now.line c.args.call.now.procedure c.args.cost.now.steps c.args.cost.now.calls
+          _ c.args.call.now.target (map (λ x. x.1) c.deref.result.now) (exprs_of_list (map expr_tree c.args.call.now.values.now)) _ _
           c.in_ok-take_step.ensures.taken same c.in_err-put_arguments.ensures.value,
     )
 
@@ -282,26 +282,26 @@ pub run_procedure-run_all-requires : goal.run_procedure-run_all-requires
 run_procedure-run_all-requires t c =
     let q : ProcedureTree = c.requires.there.procedure in
     let is : procedure_tree c.index-callee.result.now ≡ q =
-    found_is _ _ c.args.procedure q c.index-callee.result.now c.program.ensures.program c.requires.there.there
+    found_is _ _ c.args.invocation.now.procedure q c.index-callee.result.now c.program.ensures.program c.requires.there.there
     c.index-callee.ensures in
     let body_is : q.body ≡ stmts_of_list (map stmt_tree c.deref.result.now) =
     (λ i. (sym is i).body) ∙ (λ i. stmts_of_list (map stmt_tree (sym c.deref.ensures.value i))) in
     let d = ap stmts_depth body_is in
-    let b = procs_at (tree_in c.args.frame.now).procedures c.args.procedure c.args.frame.now.level q c.requires.earlier
+    let b = procs_at (tree_in c.args.frame.now).procedures c.args.invocation.now.procedure c.args.frame.now.level q c.requires.earlier
     c.requires.there.there in
-    let s : AreSoundStmts (tree_in c.args.frame.now) c.args.procedure q.of q.body =
-    c.program.ensures.ready.sound c.args.procedure q c.requires.there.there in
+    let s : AreSoundStmts (tree_in c.args.frame.now) c.args.invocation.now.procedure q.of q.body =
+    c.program.ensures.ready.sound c.args.invocation.now.procedure q c.requires.there.there in
     let body : StmtTrees = stmts_of_list (map stmt_tree c.deref.result.now) in
-    let sound : AreSoundStmts (tree_in c.args.frame.now) c.args.procedure c.args.of body =
-    subst (λ (x : StmtTrees). AreSoundStmts (tree_in c.args.frame.now) c.args.procedure c.args.of x) body_is
-    (subst (λ (o : ℕ). AreSoundStmts (tree_in c.args.frame.now) c.args.procedure o q.body) c.requires.there.of_is
+    let sound : AreSoundStmts (tree_in c.args.frame.now) c.args.invocation.now.procedure c.args.invocation.now.of body =
+    subst (λ (x : StmtTrees). AreSoundStmts (tree_in c.args.frame.now) c.args.invocation.now.procedure c.args.invocation.now.of x) body_is
+    (subst (λ (o : ℕ). AreSoundStmts (tree_in c.args.frame.now) c.args.invocation.now.procedure o q.body) c.requires.there.of_is
     s) in
     let again : c.args.frame.now.code ≡ c.again.result = sym c.again.ensures in (
-      omega (arith, ap (λ (k : ReadyCode). procs_depth (take c.args.procedure (code_tree k).procedures)) again),
+      omega (arith, ap (λ (k : ReadyCode). procs_depth (take c.args.invocation.now.procedure (code_tree k).procedures)) again),
       (
-        subst (λ (k : ReadyCode). AreSoundStmts (code_tree k) c.args.procedure c.args.of body) again sound,
+        subst (λ (k : ReadyCode). AreSoundStmts (code_tree k) c.args.invocation.now.procedure c.args.invocation.now.of body) again sound,
         (
-          c.requires.room ∙ ap (λ (k : ReadyCode). (layout_at k.layouts c.args.of).size) again,
+          c.requires.room ∙ ap (λ (k : ReadyCode). (layout_at k.layouts c.args.invocation.now.of).size) again,
           c.log_call.ensures.counted,
         ),
       ),
@@ -311,31 +311,31 @@ pub run_procedure-returns-clause-ran : goal.run_procedure-returns-clause-ran
 run_procedure-returns-clause-ran t c =
     let q : ProcedureTree = c.requires.there.procedure in
     let is : procedure_tree c.index-callee.result.now ≡ q =
-    found_is _ _ c.args.procedure q c.index-callee.result.now c.program.ensures.program c.requires.there.there
+    found_is _ _ c.args.invocation.now.procedure q c.index-callee.result.now c.program.ensures.program c.requires.there.there
     c.index-callee.ensures in
     let body_is : q.body ≡ stmts_of_list (map stmt_tree c.deref.result.now) =
     (λ i. (sym is i).body) ∙ (λ i. stmts_of_list (map stmt_tree (sym c.deref.ensures.value i))) in
     let body : StmtTrees = stmts_of_list (map stmt_tree c.deref.result.now) in
     let Left : ReadyCode → Type 0 =
-    λ k. ended (zero_at (code_tree k) c.args.of) c.run_all.result c.run_all.new.numbers c.run_all.new.cost
+    λ k. ended (zero_at (code_tree k) c.args.invocation.now.of) c.run_all.result c.run_all.new.numbers c.run_all.new.cost
     ≡ seen c.log_call.new.cost.calls
-    (run_stmts (scope_at (code_tree k) c.args.procedure c.args.of c.args.arguments.now) body
-    (filled (zero_at (code_tree k) c.args.of) c.args.numbers.now) c.log_call.new.cost.steps) in
+    (run_stmts (scope_at (code_tree k) c.args.invocation.now.procedure c.args.invocation.now.of c.args.invocation.now.arguments.now) body
+    (filled (zero_at (code_tree k) c.args.invocation.now.of) c.args.numbers.now) c.log_call.new.cost.steps) in
     let left : Left c.args.frame.now.code = subst Left c.again.ensures c.run_all.ensures.ran in
     let last =
     left ∙ (λ i.
     seen c.log_call.new.cost.calls
     (run_stmts
-    (scope_at (tree_in c.args.frame.now) c.args.procedure (sym c.requires.there.of_is i) c.args.arguments.now)
-    (sym body_is i) (filled (zero_at (tree_in c.args.frame.now) c.args.of) c.args.numbers.now)
+    (scope_at (tree_in c.args.frame.now) c.args.invocation.now.procedure (sym c.requires.there.of_is i) c.args.invocation.now.arguments.now)
+    (sym body_is i) (filled (zero_at (tree_in c.args.frame.now) c.args.invocation.now.of) c.args.numbers.now)
     (c.log_call.ensures.steps i))) in
-    procedure_gives (tree_in c.args.frame.now) c.args.procedure c.args.frame.now.level c.args.cost.now.calls
+    procedure_gives (tree_in c.args.frame.now) c.args.invocation.now.procedure c.args.frame.now.level c.args.cost.now.calls
     c.log_call.new.cost.calls c.args.cost.now.steps q
-    (slice_index_or c.args.frame.now.code.logged c.args.procedure false) c.args.arguments.now _ _ c.requires.earlier
+    (slice_index_or c.args.frame.now.code.logged c.args.invocation.now.procedure false) c.args.invocation.now.arguments.now _ _ c.requires.earlier
     c.requires.there.there
-    (proc_logged c.args.frame.now.code.program.procedures.items c.args.procedure q c.args.frame.now.code.logged
+    (proc_logged c.args.frame.now.code.program.procedures.items c.args.invocation.now.procedure q c.args.frame.now.code.logged
     c.requires.there.there c.program.ensures.ready.logged_is) (c.log_call.ensures.calls
-    ∙ ap (λ (xs : List Bool). c.args.cost.now.calls + (if slice_index_or xs c.args.procedure false then 1 else 0))
+    ∙ ap (λ (xs : List Bool). c.args.cost.now.calls + (if slice_index_or xs c.args.invocation.now.procedure false then 1 else 0))
     c.logged.ensures) last
 
 pub run-returns-in-Set-clause-ran : goal.run-returns-in-Set-clause-ran
@@ -357,21 +357,21 @@ run-returns-in-Call-clause-ran t c =
 
 pub run_if-returns-in-Holds-clause-ran : goal.run_if-returns-in-Holds-clause-ran
 run_if-returns-in-Holds-clause-ran t c =
-    branch_gives (scope_in c.args.frame.now) c.args.line c.args.cost.now.steps c.args.cost.now.calls _ _
-    (cond_tree c.args.test.now) (stmts_of_list (map stmt_tree c.args.on_true.now))
-    (stmts_of_list (map stmt_tree c.args.on_false.now)) true (cells_in c.args.frame.now c.args.numbers.now) _
+    branch_gives (scope_in c.args.frame.now) c.args.branch.now.line c.args.cost.now.steps c.args.cost.now.calls _ _
+    (cond_tree c.args.branch.now.test.now) (stmts_of_list (map stmt_tree c.args.branch.now.on_true.now))
+    (stmts_of_list (map stmt_tree c.args.branch.now.on_false.now)) true (cells_in c.args.frame.now c.args.numbers.now) _
     c.in_ok-take_step.ensures.taken c.in-Holds.ensures.value c.run_all.ensures.ran
 
 pub run_if-returns-in-Fails-clause-ran : goal.run_if-returns-in-Fails-clause-ran
 run_if-returns-in-Fails-clause-ran t c =
-    branch_gives (scope_in c.args.frame.now) c.args.line c.args.cost.now.steps c.args.cost.now.calls _ _
-    (cond_tree c.args.test.now) (stmts_of_list (map stmt_tree c.args.on_true.now))
-    (stmts_of_list (map stmt_tree c.args.on_false.now)) false (cells_in c.args.frame.now c.args.numbers.now) _
+    branch_gives (scope_in c.args.frame.now) c.args.branch.now.line c.args.cost.now.steps c.args.cost.now.calls _ _
+    (cond_tree c.args.branch.now.test.now) (stmts_of_list (map stmt_tree c.args.branch.now.on_true.now))
+    (stmts_of_list (map stmt_tree c.args.branch.now.on_false.now)) false (cells_in c.args.frame.now c.args.numbers.now) _
     c.in_ok-take_step.ensures.taken c.in-Fails.ensures.value c.run_all-in-Fails.ensures.ran
 
 pub run_if-returns-in-Halts-clause-ran : goal.run_if-returns-in-Halts-clause-ran
 run_if-returns-in-Halts-clause-ran t c =
-    branch_sticks (scope_in c.args.frame.now) c.args.line c.args.cost.now.steps c.args.cost.now.calls _
-    (cond_tree c.args.test.now) (stmts_of_list (map stmt_tree c.args.on_true.now))
-    (stmts_of_list (map stmt_tree c.args.on_false.now)) (cells_in c.args.frame.now c.args.numbers.now) _
+    branch_sticks (scope_in c.args.frame.now) c.args.branch.now.line c.args.cost.now.steps c.args.cost.now.calls _
+    (cond_tree c.args.branch.now.test.now) (stmts_of_list (map stmt_tree c.args.branch.now.on_true.now))
+    (stmts_of_list (map stmt_tree c.args.branch.now.on_false.now)) (cells_in c.args.frame.now c.args.numbers.now) _
     c.in_ok-take_step.ensures.taken c.in-Halts.ensures.value

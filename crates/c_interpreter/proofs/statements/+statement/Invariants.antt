@@ -34,8 +34,8 @@ decreases-run_call l = before l.frame.now + 5
 abbrev pub decreases-run_if : goal.decreases-run_if
 decreases-run_if l =
     before l.frame.now
-    + 4 * (max (stmts_depth (stmts_of_list (map stmt_tree l.on_true.now)))
-    (stmts_depth (stmts_of_list (map stmt_tree l.on_false.now))) + 1) + 1
+    + 4 * (max (stmts_depth (stmts_of_list (map stmt_tree l.branch.now.on_true.now)))
+    (stmts_depth (stmts_of_list (map stmt_tree l.branch.now.on_false.now))) + 1) + 1
 
 abbrev pub decreases-run_procedure : goal.decreases-run_procedure
 decreases-run_procedure l = before l.frame.now + 1

@@ -8,6 +8,6 @@ use Rattle.c_interpreter.proofs.statements.set_field.Goals as goal
 pub returns-in-Ok-clause-ran : goal.returns-in-Ok-clause-ran
 returns-in-Ok-clause-ran c =
     let f : SFits w64 c.in-Ok.value = search rules in
-    assign_gives (scope_in c.args.frame.now) c.args.line c.args.field c.args.cost.now.steps c.args.cost.now.calls _ _
-    (expr_tree c.args.e.now) _ _ _ c.in_ok-take_step.ensures.taken c.in-Ok.ensures.value
+    assign_gives (scope_in c.args.frame.now) c.args.assignment.now.line c.args.assignment.now.field c.args.cost.now.steps c.args.cost.now.calls _ _
+    (expr_tree c.args.assignment.now.value.now) _ _ _ c.in_ok-take_step.ensures.taken c.in-Ok.ensures.value
     (simp to_z-of_z at (c.store.ensures (record { steps = c.value_of.new.steps; calls = c.args.cost.now.calls })))

@@ -5,7 +5,7 @@ use Rattle.c_interpreter.proofs.Narrow.{exprs_here}
 use Rattle.c_interpreter.proofs.Evaluations.{narrow_more}
 use Rattle.c_interpreter.proofs.BodyReads.{arguments_more, arguments_stop}
 use Rattle.std.proofs.lemmas.Grind.{common_steps}
-use Rattle.c_interpreter.proofs.frames.put_arguments.Goals as goal
+use Rattle.c_interpreter.proofs.frames.Environment.put_arguments.Goals as goal
 
 pub argument-requires : goal.argument-requires
 argument-requires c =

@@ -1,8 +1,0 @@
-use Rattle.c_syntax.specs.Plain.{expr_tree}
-use Rattle.c_interpreter.proofs.BodyReads.{eval_same}
-use Rattle.c_interpreter.proofs.frames.value_of_any.Goals as goal
-
-pub returns-clause-value : goal.returns-clause-value
-returns-clause-value c =
-    eval_same c.view_of-view.result _ _ c.args.steps.now (expr_tree c.args.e.now) _ _ c.view_of-view.ensures.pures
-    c.view_of-view.ensures.line c.view_of-view.ensures.reads c.eval_any.ensures.value
