@@ -16,6 +16,13 @@ use c_tokens::{
     Token, Tokens, comma_of, inside_of, lists_continue, opener_of, test_joint, value_joint,
 };
 
+/// A token that was taken, with those after it.
+#[derive(Drop)]
+struct Taken<'a> {
+    token: Token<'a>,
+    rest: Tokens<'a>,
+}
+
 impl Reader {
     fn too_deep<'a>(self, token: &Token<'a>, opener: Opener) -> Parse<'a, Operand<'a>>
         ensures { Gives operand_of result (parsing.opened_too_deep self.last token.now opener) }
@@ -35,7 +42,7 @@ impl Reader {
         if levels == 0 {
             return self.too_deep(&token, opener);
         }
-        self.opened(levels - 1, want, &token, &rest, opener)
+        self.opened(levels - 1, want, &Taken { token, rest }, opener)
     }
 
     /// An expression, where so many more levels may be opened.
@@ -114,22 +121,17 @@ impl Reader {
     }
 
     #[cycle(expressions)]
-    fn pure_call<'a>(
-        self,
-        levels: u32,
-        token: &Token<'a>,
-        tokens: &Tokens<'a>,
-    ) -> Parse<'a, Operand<'a>>
+    fn pure_call<'a>(self, levels: u32, name: &Taken<'a>) -> Parse<'a, Operand<'a>>
         ensures { Gives operand_of result
-            (parsing.parse_values self.last (parsing.parse_operand self.last levels) token.now
-            tokens.now) }
+            (parsing.parse_values self.last (parsing.parse_operand self.last levels)
+            name.now.token name.now.rest) }
     {
-        let rest = self.word(tokens, b"(")?;
+        let rest = self.word(&name.rest, b"(")?;
         let (first, rest) = self.value(levels, &rest)?;
         let mut values = Vec::new(self.alloc);
         values.push(Box::into_inner(first))?;
         let (values, rest) = self.later_values(levels, values, rest)?;
-        let call = build::pure(self.alloc, token.line, token.text, values)?;
+        let call = build::pure(self.alloc, name.token.line, name.token.text, values)?;
         Ok((Operand::Value(call), rest))
     }
 
@@ -174,26 +176,25 @@ impl Reader {
         self,
         levels: u32,
         left: Box<WrittenExpr<'a>>,
-        token: &Token<'a>,
-        tokens: &Tokens<'a>,
+        taken: &Taken<'a>,
         joint: ValueJoint,
     ) -> Parse<'a, Operand<'a>>
         ensures { Gives operand_of result
             (parsing.join_value self.last (parsing.parse_operand self.last levels)
-            (boxed_expr left.entry) token.now tokens.now joint) }
+            (boxed_expr left.entry) taken.now.token taken.now.rest joint) }
     {
         match joint {
             ValueJoint::Operator(op) => {
-                let (right, rest) = self.value(levels, tokens)?;
+                let (right, rest) = self.value(levels, &taken.rest)?;
                 let value = build::binary(self.alloc, op, left, right)?;
                 Ok((Operand::Value(value), rest))
             }
             ValueJoint::Comparison(how) => {
-                let (right, rest) = self.value(levels, tokens)?;
+                let (right, rest) = self.value(levels, &taken.rest)?;
                 let test = build::compare(self.alloc, how, left, right)?;
                 Ok((Operand::Test(test), rest))
             }
-            ValueJoint::Nothing => Err(syntax_on(token.line).into()),
+            ValueJoint::Nothing => Err(syntax_on(taken.token.line).into()),
         }
     }
 
@@ -202,14 +203,13 @@ impl Reader {
         self,
         levels: u32,
         test: Box<WrittenCond<'a>>,
-        token: &Token<'a>,
-        tokens: &Tokens<'a>,
+        taken: &Taken<'a>,
     ) -> Parse<'a, Operand<'a>>
         ensures { Gives operand_of result
             (parsing.join_test self.last (parsing.parse_operand self.last levels)
-            (boxed_cond test.entry) token.now tokens.now joints.Pick) }
+            (boxed_cond test.entry) taken.now.token taken.now.rest joints.Pick) }
     {
-        let (on_true, rest) = self.value(levels, tokens)?;
+        let (on_true, rest) = self.value(levels, &taken.rest)?;
         let rest = self.word(&rest, b":")?;
         let (on_false, rest) = self.value(levels, &rest)?;
         Ok((
@@ -223,25 +223,24 @@ impl Reader {
         self,
         levels: u32,
         left: Box<WrittenCond<'a>>,
-        token: &Token<'a>,
-        tokens: &Tokens<'a>,
+        taken: &Taken<'a>,
         joint: TestJoint,
     ) -> Parse<'a, Operand<'a>>
         ensures { Gives operand_of result
             (parsing.join_test self.last (parsing.parse_operand self.last levels)
-            (boxed_cond left.entry) token.now tokens.now joint) }
+            (boxed_cond left.entry) taken.now.token taken.now.rest joint) }
     {
         match joint {
             TestJoint::And => {
-                let (right, rest) = self.test(levels, tokens)?;
+                let (right, rest) = self.test(levels, &taken.rest)?;
                 Ok((Operand::Test(build::both(self.alloc, left, right)?), rest))
             }
             TestJoint::Or => {
-                let (right, rest) = self.test(levels, tokens)?;
+                let (right, rest) = self.test(levels, &taken.rest)?;
                 Ok((Operand::Test(build::either(self.alloc, left, right)?), rest))
             }
-            TestJoint::Pick => self.pick(levels, left, token, tokens),
-            TestJoint::Nothing => Err(syntax_on(token.line).into()),
+            TestJoint::Pick => self.pick(levels, left, taken),
+            TestJoint::Nothing => Err(syntax_on(taken.token.line).into()),
         }
     }
 
@@ -251,28 +250,21 @@ impl Reader {
         levels: u32,
         want: Want,
         first: Operand<'a>,
-        token: &Token<'a>,
-        tokens: &Tokens<'a>,
+        taken: &Taken<'a>,
     ) -> Parse<'a, Operand<'a>>
         ensures { Gives operand_of result
             (parsing.join self.last (parsing.parse_operand self.last levels) want
-            (operand_of first.entry) (token.now, tokens.now)) }
+            (operand_of first.entry) (taken.now.token, taken.now.rest)) }
     {
         match first {
-            Operand::Value(left) => self.join_value(
-                levels,
-                left,
-                token,
-                tokens,
-                value_joint(want, token.text),
-            ),
-            Operand::Test(left) => self.join_test(
-                levels,
-                left,
-                token,
-                tokens,
-                test_joint(want, token.text),
-            ),
+            Operand::Value(left) => {
+                let joint = value_joint(want, taken.token.text);
+                self.join_value(levels, left, taken, joint)
+            }
+            Operand::Test(left) => {
+                let joint = test_joint(want, taken.token.text);
+                self.join_test(levels, left, taken, joint)
+            }
         }
     }
 
@@ -284,7 +276,7 @@ impl Reader {
     {
         let (first, rest) = self.operand(levels, Want::Any, tokens)?;
         let (token, rest) = self.next(&rest)?;
-        let (operand, rest) = self.join(levels, want, first, &token, &rest)?;
+        let (operand, rest) = self.join(levels, want, first, &Taken { token, rest })?;
         let rest = self.word(&rest, b")")?;
         Ok((operand, rest))
     }
@@ -314,24 +306,21 @@ impl Reader {
         self,
         levels: u32,
         want: Want,
-        token: &Token<'a>,
-        tokens: &Tokens<'a>,
+        taken: &Taken<'a>,
         opener: Opener,
     ) -> Parse<'a, Operand<'a>>
         ensures { Gives operand_of result
-            (parsing.parse_opened self.last (parsing.parse_operand self.last levels) want token.now
-            tokens.now opener) }
+            (parsing.parse_opened self.last (parsing.parse_operand self.last levels) want
+            taken.now.token taken.now.rest opener) }
     {
         match opener {
-            Opener::Number => self.number(tokens),
-            Opener::Call => self.pure_call(levels, token, tokens),
-            Opener::Paren => self.inside(
-                levels,
-                want,
-                tokens,
-                inside_of(want, tokens.first_text()),
-            ),
-            Opener::Nothing => Err(syntax_on(token.line).into()),
+            Opener::Number => self.number(&taken.rest),
+            Opener::Call => self.pure_call(levels, taken),
+            Opener::Paren => {
+                let inside = inside_of(want, taken.rest.first_text());
+                self.inside(levels, want, &taken.rest, inside)
+            }
+            Opener::Nothing => Err(syntax_on(taken.token.line).into()),
         }
     }
 }
