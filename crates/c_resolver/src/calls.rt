@@ -143,24 +143,31 @@ fn resolve_arguments(
     Ok(resolved)
 }
 
+/// A call of a procedure, by its name, as it is written on a line.
+#[derive(Drop)]
+pub(crate) struct WrittenCall<'s, 'a> {
+    pub(crate) line: u32,
+    pub(crate) name: &'s [u8],
+    pub(crate) target: WrittenTarget<'a>,
+    pub(crate) values: &'s [Argument<'a>],
+}
+
 /// What a call of a procedure stands for.
 pub(crate) fn resolve_call_of_procedure(
     alloc: Global,
     scope: &Scope,
-    line: u32,
-    name: &[u8],
-    target: WrittenTarget,
-    values: &[Argument],
+    written: &WrittenCall,
 ) -> Result<Stmt, ReadCFault>
     ensures { Gives stmt_tree result
         (rules.resolve_stmt (names_of scope.now)
-        (call line name.now (target_of target.entry)
-        (arguments_from (map argument_of values.now)))) }
+        (call written.now.line written.now.name.now (target_of written.now.target)
+        (arguments_from (map argument_of written.now.values.now)))) }
 {
-    let (procedure, target) = on_line(line, resolve_call(scope, name, target, values))?;
-    let values = resolve_arguments(alloc, scope, values)?;
+    let callee = resolve_call(scope, written.name, written.target, written.values);
+    let (procedure, target) = on_line(written.line, callee)?;
+    let values = resolve_arguments(alloc, scope, written.values)?;
     Ok(Stmt::Call {
-        line,
+        line: written.line,
         procedure,
         target,
         values,

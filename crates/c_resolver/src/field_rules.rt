@@ -82,20 +82,30 @@ fn resolve_kind(known: &Known, kind: WrittenKind) -> Result<FieldKind, CKind>
     }
 }
 
-/// What the kind of a field stands for, where the field keeps the rules after these fields.
-pub(crate) fn resolve_field(
-    known: &Known,
-    is_root: bool,
-    numbers: &Numbers,
-    earlier: &Table<Field>,
-    field: &WrittenField,
-) -> Result<FieldKind, CKind>
-    ensures { rules.resolve_field (known_of known.now) is_root (names_in numbers.now)
-        (map (λ f. f.name) earlier.now.items.items) (field_of field.now)
-        ≡ named_kind field.now.name.now result }
-{
-    unless_fault(!earlier.contains(field.name), CKind::Name)?;
-    let kind = resolve_kind(known, field.kind)?;
-    unless_fault(may_stand(is_root, numbers, field), CKind::TypeRule)?;
-    Ok(kind)
+/// What the fields of a struct are judged by: the definitions before it, whether it is the root's, and its number fields.
+#[derive(Drop)]
+pub(crate) struct FieldScope<'k, 's, 'n, 'a> {
+    pub(crate) known: &'k Known<'a>,
+    pub(crate) is_root: bool,
+    pub(crate) numbers: &'s Numbers<'n, 'a>,
+}
+
+impl<'k, 's, 'n, 'a> FieldScope<'k, 's, 'n, 'a> {
+    /// What the kind of a field stands for, where the field keeps the rules after these fields.
+    pub(crate) fn resolve_field(
+        &self,
+        earlier: &Table<Field>,
+        field: &WrittenField,
+    ) -> Result<FieldKind, CKind>
+        ensures { rules.resolve_field (known_of self.now.known.now) self.now.is_root
+            (names_in self.now.numbers.now)
+            (map (λ f. f.name) earlier.now.items.items) (field_of field.now)
+            ≡ named_kind field.now.name.now result }
+    {
+        unless_fault(!earlier.contains(field.name), CKind::Name)?;
+        let kind = resolve_kind(self.known, field.kind)?;
+        let may_stand = may_stand(self.is_root, self.numbers, field);
+        unless_fault(may_stand, CKind::TypeRule)?;
+        Ok(kind)
+    }
 }

@@ -11,7 +11,7 @@ ghost use Rattle.c_rules.specs.Gives.{Gives};
 ghost use Rattle.c_resolver.specs.Scopes.{names_of};
 ghost use Rattle.c_resolver.specs.Choices.{resolve_second};
 
-use crate::calls::{resolve_call_of_procedure, resolve_item_store, resolve_store};
+use crate::calls::{WrittenCall, resolve_call_of_procedure, resolve_item_store, resolve_store};
 use crate::exprs::{resolve_boxed, resolve_boxed_cond, resolve_expr};
 use crate::known::Scope;
 use c_grammar::{ReadCFault, WrittenExpr, WrittenStmt};
@@ -33,22 +33,30 @@ fn choice(line: u32, test: Box<Cond>, yes: Vec<Stmt>, no: Vec<Stmt>) -> Stmt
     }
 }
 
+/// A store in an item of an array field, as it is written on a line.
+#[derive(Drop)]
+struct WrittenItemStore<'s, 'a> {
+    line: u32,
+    field: &'s [u8],
+    index: &'s WrittenExpr<'a>,
+    cast: CType,
+    value: &'s WrittenExpr<'a>,
+}
+
 /// What a store in an item of an array stands for.
 fn resolve_set_at(
     alloc: Global,
     scope: &Scope,
-    line: u32,
-    field: &[u8],
-    index: &WrittenExpr,
-    cast: CType,
-    value: &WrittenExpr,
+    written: &WrittenItemStore,
 ) -> Result<Stmt, ReadCFault>
     ensures { Gives stmt_tree result (rules.resolve_stmt (names_of scope.now)
-        (assign_at line field.now (expr_of index.now) cast (expr_of value.now))) }
+        (assign_at written.now.line written.now.field.now (expr_of written.now.index.now)
+        written.now.cast (expr_of written.now.value.now))) }
 {
-    let field = on_line(line, resolve_item_store(scope, field, cast))?;
-    let index = resolve_boxed(alloc, scope, index)?;
-    let value = resolve_expr(alloc, scope, value)?;
+    let line = written.line;
+    let field = on_line(line, resolve_item_store(scope, written.field, written.cast))?;
+    let index = resolve_boxed(alloc, scope, written.index)?;
+    let value = resolve_expr(alloc, scope, written.value)?;
     Ok(Stmt::SetAt {
         line,
         field,
@@ -83,7 +91,16 @@ fn resolve_stmt(alloc: Global, scope: &Scope, s: &WrittenStmt) -> Result<Stmt, R
             index,
             cast,
             value,
-        } => resolve_set_at(alloc, scope, *line, field, index, *cast, value),
+        } => {
+            let written = WrittenItemStore {
+                line: *line,
+                field,
+                index,
+                cast: *cast,
+                value,
+            };
+            resolve_set_at(alloc, scope, &written)
+        }
         WrittenStmt::If {
             line,
             test,
@@ -101,7 +118,15 @@ fn resolve_stmt(alloc: Global, scope: &Scope, s: &WrittenStmt) -> Result<Stmt, R
             procedure,
             target,
             values,
-        } => resolve_call_of_procedure(alloc, scope, *line, procedure, *target, values.as_slice()),
+        } => {
+            let written = WrittenCall {
+                line: *line,
+                name: procedure,
+                target: *target,
+                values: values.as_slice(),
+            };
+            resolve_call_of_procedure(alloc, scope, &written)
+        }
     }
 }
 

@@ -1,6 +1,5 @@
 // Structs.
 ghost use Rattle.std.specs.Prelude.{◌≡◌, ◌++◌, ◌∷◌, [], map, filter_map, false, OnOk, IfOk, bytes_eq, codes};
-ghost use Rattle.c_syntax.specs.Outputs as output;
 ghost use Rattle.c_syntax.specs.Outputs.{has_name};
 ghost use Rattle.c_syntax.specs.PlainField.{field_trees};
 ghost use Rattle.c_rules.specs.Resolve as rules;
@@ -9,9 +8,9 @@ ghost use Rattle.c_resolver.specs.Fields.{names_in, fields_behind};
 ghost use Rattle.c_rules.specs.Gives.{Gives};
 ghost use Rattle.c_resolver.specs.Scopes.{known_of};
 
-use crate::field_rules::{numbers_of, resolve_field};
+use crate::field_rules::{FieldScope, numbers_of};
 use crate::known::Known;
-use crate::numbers::{Numbers, number_names};
+use crate::numbers::number_names;
 use crate::roots::is_root;
 use crate::table::Table;
 use base_core::{Memory, Text};
@@ -39,53 +38,21 @@ fn push_field<'a>(
 /// Adds what more fields of a struct stand for to those before them.
 fn resolve_fields<'a>(
     alloc: Global,
-    known: &Known,
-    is_root: bool,
-    numbers: &Numbers,
+    scope: &FieldScope,
     fields: &[WrittenField<'a>],
     resolved: &mut Table<'a, Field>,
 ) -> Result<(), ReadCFault>
     ensures { let before = resolved.old.items.items in
         Gives (λ _. field_trees resolved.new.items.items) result
-        (fields_behind (known_of known.now) is_root (names_in numbers.now) (field_trees before)
+        (fields_behind (known_of scope.now.known.now) scope.now.is_root
+        (names_in scope.now.numbers.now) (field_trees before)
         (map (λ f. f.name) before) (map field_of fields.now)) }
 {
     for field in fields {
-        let kind = on_line(
-            field.line,
-            resolve_field(known, is_root, numbers, resolved, field),
-        )?;
+        let kind = on_line(field.line, scope.resolve_field(resolved, field))?;
         push_field(alloc, resolved, field, kind)?;
     }
     Ok(())
-}
-
-/// Adds what the fields of a struct stand for, where these are the names of its number fields, and of the outputs among
-/// them.
-fn resolve_beside<'a>(
-    alloc: Global,
-    known: &Known<'a>,
-    d: &WrittenStruct<'a>,
-    names: Vec<&'a [u8]>,
-    outputs: &[Text],
-    resolved: &mut Table<'a, Field>,
-) -> Result<(), ReadCFault>
-    requires { outputs.now ≡ output.output_names (map (λ x. x.now) names.items) }
-    ensures { let before = resolved.old.items.items in
-        Gives (λ _. field_trees resolved.new.items.items) result
-        (fields_behind (known_of known.now) (bytes_eq d.now.name.now (codes "root"))
-        (map (λ x. x.now) names.entry.items) (field_trees before) (map (λ f. f.name) before)
-        (struct_of d.now).fields) }
-{
-    let numbers = numbers_of(alloc, names, outputs)?;
-    resolve_fields(
-        alloc,
-        known,
-        is_root(d.name),
-        &numbers,
-        d.fields.as_slice(),
-        resolved,
-    )
 }
 
 /// Adds what the fields of a struct stand for, the names of the outputs among them found first.
@@ -101,9 +68,16 @@ fn resolve_all_fields<'a>(
         (filter_map rules.number_name (struct_of d.now).fields) (field_trees before)
         (map (λ f. f.name) before) (struct_of d.now).fields) }
 {
-    let names = number_names(alloc, d.fields.as_slice())?;
+    let fields = d.fields.as_slice();
+    let names = number_names(alloc, fields)?;
     let outputs = output_names(alloc, names.as_slice())?;
-    resolve_beside(alloc, known, d, names, outputs.as_slice(), resolved)
+    let numbers = numbers_of(alloc, names, outputs.as_slice())?;
+    let scope = FieldScope {
+        known,
+        is_root: is_root(d.name),
+        numbers: &numbers,
+    };
+    resolve_fields(alloc, &scope, fields, resolved)
 }
 
 /// What a struct stands for, with the names of its fields.

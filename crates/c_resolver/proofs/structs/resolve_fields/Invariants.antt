@@ -9,7 +9,7 @@ abbrev pub invariant-loop-field : goal.invariant-loop-field
 invariant-loop-field l =
     let before = l.fn.resolved.items.items in
     let now = l.resolved.items.items in
-    fields_behind (known_of l.known) l.is_root (names_in l.numbers) (field_trees before) (map (λ f. f.name) before)
+    fields_behind (known_of l.scope.known.now) l.scope.is_root (names_in l.scope.numbers.now) (field_trees before) (map (λ f. f.name) before)
     (map field_of l.fields)
-    ≡ fields_behind (known_of l.known) l.is_root (names_in l.numbers) (field_trees now) (map (λ f. f.name) now)
+    ≡ fields_behind (known_of l.scope.known.now) l.scope.is_root (names_in l.scope.numbers.now) (field_trees now) (map (λ f. f.name) now)
     (map field_of (drop l.field-index l.fields))
