@@ -103,12 +103,7 @@ impl<'f, 'a, 'n> Environment<'f, 'a, 'n> {
 
     /// The place in an own array that an index of the body stands for.
     #[tactic(auto, using(crate::proofs::Items::index_gives, crate::proofs::Items::index_sticks, crate::proofs::Evaluations::and_then_sticks))]
-    pub(crate) fn place_of(
-        &self,
-        field: u32,
-        index: &Expr,
-        steps: &mut u64,
-    ) -> Result<usize, Halt>
+    pub(crate) fn place_of(&self, field: u32, index: &Expr, steps: &mut u64) -> Result<usize, Halt>
         requires narrow { IsNarrowExpr (expr_tree index.now) }
         ensures value { let f = self.now.frame.now in
             answered result steps.new

@@ -305,12 +305,7 @@ fn run(frame: &Frame, stmt: &Stmt, numbers: &mut [i64], cost: &mut Cost) -> Resu
 
 #[cycle(statement)]
 #[inline(never)]
-fn run_if(
-    frame: &Frame,
-    branch: &Branch,
-    numbers: &mut [i64],
-    cost: &mut Cost,
-) -> Result<(), Halt>
+fn run_if(frame: &Frame, branch: &Branch, numbers: &mut [i64], cost: &mut Cost) -> Result<(), Halt>
     requires sound { IsSoundIn frame.now (branch_tree branch.now) }
     requires room { length numbers.old ≡ size_in frame.now }
     requires counted { IsCounted cost.old }
@@ -333,12 +328,7 @@ fn run_if(
 
 #[cycle(statement)]
 #[inline(never)]
-fn run_call(
-    frame: &Frame,
-    call: &Call,
-    numbers: &mut [i64],
-    cost: &mut Cost,
-) -> Result<(), Halt>
+fn run_call(frame: &Frame, call: &Call, numbers: &mut [i64], cost: &mut Cost) -> Result<(), Halt>
     requires sound { IsSoundIn frame.now (call_tree call.now) }
     requires room { length numbers.old ≡ size_in frame.now }
     requires counted { IsCounted cost.old }
@@ -357,12 +347,7 @@ fn run_call(
 
 #[cycle(statement)]
 #[inline(never)]
-fn call_many(
-    frame: &Frame,
-    call: &Call,
-    numbers: &mut [i64],
-    cost: &mut Cost,
-) -> Result<(), Halt>
+fn call_many(frame: &Frame, call: &Call, numbers: &mut [i64], cost: &mut Cost) -> Result<(), Halt>
     requires sound { IsSoundIn frame.now (call_tree call.now) }
     requires room { length numbers.old ≡ size_in frame.now }
     requires counted { IsCounted cost.old }
