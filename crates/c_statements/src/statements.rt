@@ -118,23 +118,31 @@ pub fn block<'a>(
     statements(reader, levels, rest)
 }
 
+/// A choice up to its first block: the token that opens it, what it tests, and that block.
+#[derive(Drop)]
+struct OpenChoice<'t, 'a> {
+    token: &'t Token<'a>,
+    test: Box<WrittenCond<'a>>,
+    yes: Vec<WrittenStmt<'a>>,
+}
+
 // The rest of a choice after its first block.
 #[cycle(statements)]
 fn second<'a>(
     reader: Reader,
     levels: u32,
-    token: &Token<'a>,
-    test: Box<WrittenCond<'a>>,
-    yes: Vec<WrittenStmt<'a>>,
+    begun: OpenChoice<'_, 'a>,
     tokens: Tokens<'a>,
 ) -> Parse<'a, WrittenStmt<'a>>
     ensures { Gives stmt_of result
         (parsing.parse_second reader.last (limits_of reader.limits)
         (parsing.parse_stmt reader.last (limits_of reader.limits) levels)
-        token.now (boxed_cond test.entry) (parsing.stmts_from (map stmt_of yes.entry.items))
+        begun.entry.token.now (boxed_cond begun.entry.test)
+        (parsing.stmts_from (map stmt_of begun.entry.yes.items))
         tokens.entry
         (bytes_eq (parsing.first_text tokens.entry) (codes "else"))) }
 {
+    let OpenChoice { token, test, yes } = begun;
     if !is(tokens.first_text(), b"else") {
         let no = Vec::new(reader.alloc);
         return Ok((build::choice(token.line, test, yes, false, no), tokens));
@@ -157,5 +165,5 @@ fn choice<'a>(
 {
     let (test, rest) = reader.test(reader.limits.exprs, tokens)?;
     let (yes, rest) = block(reader, levels, &rest)?;
-    second(reader, levels, token, test, yes, rest)
+    second(reader, levels, OpenChoice { token, test, yes }, rest)
 }
