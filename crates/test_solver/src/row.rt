@@ -6,8 +6,9 @@ ghost use Rattle.diagram_meaning.specs.ResolvedTree.{diagram_of};
 ghost use Rattle.diagram_meaning.specs.Rows.{row_at, is_triggered as is_triggered_control, system_control as control_of_system};
 ghost use Rattle.diagram_meaning.specs.Diagram.{op_at, type_at};
 ghost use Rattle.diagram_meaning.specs.Run as run;
-ghost use Rattle.diagram_typed_runs.specs.Fitting.{AreFit, IsFit};
+ghost use Rattle.diagram_typed_runs.specs.Fitting.{AreFit};
 ghost use Rattle.diagram_typed_runs.specs.Traces.{HasInputs};
+ghost use Rattle.test_solver.specs.Ticks.{HasItsInputs, IsFitBefore, diagram_in, row_memory, row_value};
 
 use crate::activity::{is_active, is_disabled, is_off, runs, system_control, trigger_value};
 use crate::reading::{input_values, op, row, type_of};
@@ -25,6 +26,15 @@ pub(crate) struct State {
     pub values: Vec<i64>,
     pub memories: Vec<Samples>,
     pub triggers: Vec<TrigMem>,
+}
+
+// A tick of a diagram: its number from 0, the inputs at it, and the state before it.
+#[derive(Drop)]
+pub(crate) struct Tick<'d, 'i, 's> {
+    pub diagram: &'d Resolved,
+    pub number: usize,
+    pub inputs: &'i [i64],
+    pub before: &'s State,
 }
 
 // What row `b` is before the first tick.
@@ -63,90 +73,76 @@ pub(crate) fn first_memory(alloc: Global, r: &Resolved, b: usize) -> Result<Samp
 }
 
 // The value of row `b` at a tick, from these values of the tick.
-pub(crate) fn row_value(
-    alloc: Global,
-    r: &Resolved,
-    tick: usize,
-    inputs: &[i64],
-    before: &State,
-    values: &[i64],
-    b: usize,
-) -> Result<i64, Memory>
-    requires inputs { HasInputs (diagram_of r.now) None inputs.now }
-    requires before { IsFit (diagram_of r.now) before.now.values.items before.now.memories.items
-        before.now.triggers.items }
-    requires values { AreFit (diagram_of r.now) values.now }
-    requires row { b < length r.now.tree.table.rows }
-    ensures { IfOk result (λ v. v
-        ≡ run.row_value (diagram_of r.now) None tick inputs.now before.now.values.items
-        before.now.memories.items before.now.triggers.items values.now b) }
+pub(crate) fn row_value(alloc: Global, tick: &Tick, values: &[i64], b: usize) -> Result<i64, Memory>
+    requires inputs { HasItsInputs tick.now }
+    requires before { IsFitBefore tick.now }
+    requires values { AreFit (diagram_in tick.now) values.now }
+    requires row { b < length tick.now.diagram.now.tree.table.rows }
+    ensures { IfOk result (λ v. v ≡ row_value tick.now values.now b) }
 {
+    let r = tick.diagram;
     let row = row(r, b);
     if !row.kind.has_value() {
         return Ok(0);
     }
+    let before = tick.before;
     let triggers = before.triggers.as_slice();
     if row.kind.is_reset_outport() && is_disabled(r, triggers, values, row.owner) {
         return Ok(start(r, b));
     }
-    if !runs(r, tick, triggers, values, b) {
+    if !runs(r, tick.number, triggers, values, b) {
         return Ok(before.values[b]);
     }
-    computed(alloc, r, inputs, values, before.memories[b].first(), b)
+    computed(alloc, tick, values, before.memories[b].first(), b)
 }
 
 // What row `b` computes of its inputs and the first that it remembers.
 fn computed(
     alloc: Global,
-    r: &Resolved,
-    inputs: &[i64],
+    tick: &Tick,
     values: &[i64],
     memory: i64,
     b: usize,
 ) -> Result<i64, Memory>
-    requires inputs { HasInputs (diagram_of r.now) None inputs.now }
-    requires values { AreFit (diagram_of r.now) values.now }
-    requires memory { InType (type_at r.now.types b) memory }
-    requires row { b < length r.now.tree.table.rows }
-    ensures { IfOk result (λ v. v
-        ≡ value_of (op_at (diagram_of r.now) b)
-        (run.input_values (diagram_of r.now) None inputs.now values.now [] b) memory) }
+    requires inputs { HasItsInputs tick.now }
+    requires values { AreFit (diagram_in tick.now) values.now }
+    requires memory { InType (type_at tick.now.diagram.now.types b) memory }
+    requires row { b < length tick.now.diagram.now.tree.table.rows }
+    ensures { let d = diagram_in tick.now in IfOk result (λ v. v
+        ≡ value_of (op_at d b)
+        (run.input_values d None tick.now.inputs.now values.now [] b) memory) }
 {
-    let read = input_values(alloc, r, inputs, values, b)?;
-    Ok(rhs(&op(r, b), read.as_slice(), memory))
+    let read = input_values(alloc, tick.diagram, tick.inputs, values, b)?;
+    Ok(rhs(&op(tick.diagram, b), read.as_slice(), memory))
 }
 
 // What row `b` remembers after a tick with these values, nothing where it is no delay.
 pub(crate) fn row_memory(
     alloc: Global,
-    r: &Resolved,
-    tick: usize,
-    inputs: &[i64],
-    before: &State,
+    tick: &Tick,
     values: &[i64],
     b: usize,
 ) -> Result<Samples, Memory>
-    requires inputs { HasInputs (diagram_of r.now) None inputs.now }
-    requires before { IsFit (diagram_of r.now) before.now.values.items before.now.memories.items
-        before.now.triggers.items }
-    requires values { AreFit (diagram_of r.now) values.now }
-    requires row { b < length r.now.tree.table.rows }
-    ensures { IfOk result (λ m. m ≡ (if run.has_memory (diagram_of r.now) None b
-        then run.row_memory (diagram_of r.now) None tick inputs.now before.now.memories.items
-        before.now.triggers.items values.now b else [])) }
+    requires inputs { HasItsInputs tick.now }
+    requires before { IsFitBefore tick.now }
+    requires values { AreFit (diagram_in tick.now) values.now }
+    requires row { b < length tick.now.diagram.now.tree.table.rows }
+    ensures { IfOk result (λ m. m ≡ (if run.has_memory (diagram_in tick.now) None b
+        then row_memory tick.now values.now b else [])) }
 {
+    let r = tick.diagram;
     if !op(r, b).is_delay() {
         return Ok(Samples::none(alloc));
     }
-    let triggers = before.triggers.as_slice();
+    let triggers = tick.before.triggers.as_slice();
     if is_off(r, triggers, values, row(r, b).owner) {
         return first_memory(alloc, r, b);
     }
-    let memory = &before.memories[b];
-    if !runs(r, tick, triggers, values, b) {
+    let memory = &tick.before.memories[b];
+    if !runs(r, tick.number, triggers, values, b) {
         return memory.copied(alloc);
     }
-    let taken = first_input(alloc, r, inputs, values, b)?;
+    let taken = first_input(alloc, r, tick.inputs, values, b)?;
     memory.moved_on(alloc, taken)
 }
 

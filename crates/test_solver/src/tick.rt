@@ -4,9 +4,10 @@ ghost use Rattle.diagram_meaning.specs.Needs.{needs_of, HasNoLoop};
 ghost use Rattle.diagram_meaning.specs.Run as run;
 ghost use Rattle.diagram_typed_runs.specs.Fitting.{AreFit, AreInTypes, IsFit};
 ghost use Rattle.diagram_typed_runs.specs.Traces.{HasInputs};
+ghost use Rattle.test_solver.specs.Ticks.{HasItsInputs, IsFitBefore, diagram_in, row_memory, row_value};
 
 use crate::reading::row_count;
-use crate::row::{State, row_memory, row_trigger, row_value};
+use crate::row::{State, Tick, row_memory, row_trigger, row_value};
 use crate::samples::Samples;
 use base_core::Memory;
 use diagram_activity::TrigMem;
@@ -32,8 +33,14 @@ pub(crate) fn next_state(
         (λ after. IsFit (diagram_of r.now) after.values.items after.memories.items
         after.triggers.items) }
 {
-    let values = solution(alloc, r, tick, inputs, before)?;
-    let memories = memories_after(alloc, r, tick, inputs, before, values.as_slice())?;
+    let tick = Tick {
+        diagram: r,
+        number: tick,
+        inputs,
+        before,
+    };
+    let values = solution(alloc, &tick)?;
+    let memories = memories_after(alloc, &tick, values.as_slice())?;
     let triggers = triggers_after(alloc, r, before.triggers.as_slice(), values.as_slice())?;
     Ok(State {
         values,
@@ -44,25 +51,17 @@ pub(crate) fn next_state(
 
 // The values of a tick. Each round makes the values of all rows from those of the round before, until none changes. As
 // many rounds as the longest walk along needs are enough, and that has no more steps than there are rows.
-fn solution(
-    alloc: Global,
-    r: &Resolved,
-    tick: usize,
-    inputs: &[i64],
-    before: &State,
-) -> Result<Vec<i64>, Memory>
-    requires no_loop { HasNoLoop (needs_of (diagram_of r.now)) }
-    requires inputs { HasInputs (diagram_of r.now) None inputs.now }
-    requires before { IsFit (diagram_of r.now) before.now.values.items before.now.memories.items
-        before.now.triggers.items }
-    ensures solves { IfOk result (λ v. v.items ≡ run.values_by (diagram_of r.now) None
-        (run.row_value (diagram_of r.now) None tick inputs.now before.now.values.items
-        before.now.memories.items before.now.triggers.items v.items)) }
-    ensures fit { IfOk result (λ v. AreFit (diagram_of r.now) v.items) }
+fn solution(alloc: Global, tick: &Tick) -> Result<Vec<i64>, Memory>
+    requires no_loop { HasNoLoop (needs_of (diagram_in tick.now)) }
+    requires inputs { HasItsInputs tick.now }
+    requires before { IsFitBefore tick.now }
+    ensures solves { IfOk result (λ v. v.items ≡ run.values_by (diagram_in tick.now) None
+        (row_value tick.now v.items)) }
+    ensures fit { IfOk result (λ v. AreFit (diagram_in tick.now) v.items) }
 {
-    let mut values = Vec::from_slice(alloc, before.values.as_slice())?;
-    for _turn in 0..row_count(r) + 2 {
-        let next = round(alloc, r, tick, inputs, before, values.as_slice())?;
+    let mut values = Vec::from_slice(alloc, tick.before.values.as_slice())?;
+    for _turn in 0..row_count(tick.diagram) + 2 {
+        let next = round(alloc, tick, values.as_slice())?;
         if next.as_slice() == values.as_slice() {
             return Ok(next);
         }
@@ -72,51 +71,33 @@ fn solution(
 }
 
 // The values of all rows, made from these.
-fn round(
-    alloc: Global,
-    r: &Resolved,
-    tick: usize,
-    inputs: &[i64],
-    before: &State,
-    values: &[i64],
-) -> Result<Vec<i64>, Memory>
-    requires inputs { HasInputs (diagram_of r.now) None inputs.now }
-    requires before { IsFit (diagram_of r.now) before.now.values.items before.now.memories.items
-        before.now.triggers.items }
-    requires values { AreFit (diagram_of r.now) values.now }
-    ensures values { IfOk result (λ v. v.items ≡ run.values_by (diagram_of r.now) None
-        (run.row_value (diagram_of r.now) None tick inputs.now before.now.values.items
-        before.now.memories.items before.now.triggers.items values.now)) }
-    ensures fit { IfOk result (λ v. AreFit (diagram_of r.now) v.items) }
+fn round(alloc: Global, tick: &Tick, values: &[i64]) -> Result<Vec<i64>, Memory>
+    requires inputs { HasItsInputs tick.now }
+    requires before { IsFitBefore tick.now }
+    requires values { AreFit (diagram_in tick.now) values.now }
+    ensures values { IfOk result (λ v. v.items ≡ run.values_by (diagram_in tick.now) None
+        (row_value tick.now values.now)) }
+    ensures fit { IfOk result (λ v. AreFit (diagram_in tick.now) v.items) }
 {
     let mut next = Vec::new(alloc);
-    for b in 0..row_count(r) {
-        next.push(row_value(alloc, r, tick, inputs, before, values, b)?)?;
+    for b in 0..row_count(tick.diagram) {
+        next.push(row_value(alloc, tick, values, b)?)?;
     }
     Ok(next)
 }
 
 // What all rows remember after a tick with these values.
-fn memories_after(
-    alloc: Global,
-    r: &Resolved,
-    tick: usize,
-    inputs: &[i64],
-    before: &State,
-    values: &[i64],
-) -> Result<Vec<Samples>, Memory>
-    requires inputs { HasInputs (diagram_of r.now) None inputs.now }
-    requires before { IsFit (diagram_of r.now) before.now.values.items before.now.memories.items
-        before.now.triggers.items }
-    requires values { AreFit (diagram_of r.now) values.now }
-    ensures memories { IfOk result (λ m. m.items ≡ run.memories_by (diagram_of r.now) None
-        (run.row_memory (diagram_of r.now) None tick inputs.now before.now.memories.items
-        before.now.triggers.items values.now)) }
-    ensures fit { IfOk result (λ m. AreInTypes (diagram_of r.now) m.items) }
+fn memories_after(alloc: Global, tick: &Tick, values: &[i64]) -> Result<Vec<Samples>, Memory>
+    requires inputs { HasItsInputs tick.now }
+    requires before { IsFitBefore tick.now }
+    requires values { AreFit (diagram_in tick.now) values.now }
+    ensures memories { IfOk result (λ m. m.items ≡ run.memories_by (diagram_in tick.now) None
+        (row_memory tick.now values.now)) }
+    ensures fit { IfOk result (λ m. AreInTypes (diagram_in tick.now) m.items) }
 {
     let mut next = Vec::new(alloc);
-    for b in 0..row_count(r) {
-        next.push(row_memory(alloc, r, tick, inputs, before, values, b)?)?;
+    for b in 0..row_count(tick.diagram) {
+        next.push(row_memory(alloc, tick, values, b)?)?;
     }
     Ok(next)
 }

@@ -11,8 +11,8 @@ use Rattle.test_solver.proofs.row.row_value.Goals as goal
 pub computed-requires-clause-memory : goal.computed-requires-clause-memory
 computed-requires-clause-memory c =
     let b = c.args.b in
-    let type = type_at c.args.r.now.types b in
-    let memories = c.args.before.now.memories.items in
+    let type = type_at c.args.tick.now.diagram.now.types b in
+    let memories = c.args.tick.now.before.now.memories.items in
     let first_fits : FitsSigned w64 c.first.result = search rules in
     let in_memories : b < length memories = omega (arith, c.requires.before.memories.one_each, c.requires.row) in
     let first : c.first.result ≡ first_of (memory_at memories b) =

@@ -7,6 +7,6 @@ use Rattle.test_solver.proofs.tick.memories_after.Given as goal
 abbrev pub invariant-loop-b : goal.invariant-loop-b
 invariant-loop-b l =
     l.next.items
-    ≡ map (λ b. if has_memory (diagram_of l.fn.r) None b
-    then row_memory (diagram_of l.fn.r) None l.tick l.inputs l.before.memories.items l.before.triggers.items
+    ≡ map (λ b. if has_memory (diagram_of l.tick.diagram.now) None b
+    then row_memory (diagram_of l.tick.diagram.now) None l.tick.number l.tick.inputs.now l.tick.before.now.memories.items l.tick.before.now.triggers.items
     l.values b else []) (range_with_len 0 l.b)

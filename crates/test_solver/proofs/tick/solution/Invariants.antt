@@ -7,7 +7,7 @@ use Rattle.test_solver.proofs.tick.solution.Given as goal
 abbrev pub invariant-loop-turn : goal.invariant-loop-turn
 invariant-loop-turn l = record {
   made : l.values.items
-      ≡ rounds (diagram_of l.fn.r) l.tick l.inputs l.before.values.items l.before.memories.items l.before.triggers.items
-      l.before.values.items l._turn;
-  fit : AreFit (diagram_of l.fn.r) l.values.items;
+      ≡ rounds (diagram_of l.tick.diagram.now) l.tick.number l.tick.inputs.now l.tick.before.now.values.items l.tick.before.now.memories.items l.tick.before.now.triggers.items
+      l.tick.before.now.values.items l._turn;
+  fit : AreFit (diagram_of l.tick.diagram.now) l.values.items;
 }
