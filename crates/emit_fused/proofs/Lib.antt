@@ -7,3 +7,4 @@ mod FusedLawful
 mod FusedLines
 mod Rows
 mod TurnedLists
+mod StraightBodies

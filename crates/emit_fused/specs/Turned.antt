@@ -4,6 +4,7 @@ use Rattle.c_syntax.specs.declared.code.Stmt.{Stmt}
 use Rattle.c_syntax.specs.Tree.{CondTree, StmtTree, assign, assign_at, branch, call, StmtTrees, no_stmts, more_stmts, stmts_of_list}
 use Rattle.c_syntax.specs.Plain.{stmt_tree}
 use Rattle.emit_fused.specs.Same.{opposite}
+use Rattle.emit_fused.specs.Fused.{fused_stmt}
 
 abbrev mutual
   pub turned_stmt : StmtTree → StmtTree
@@ -32,6 +33,13 @@ turned ss = turned_onto (standing ss) no_stmts
 abbrev pub is_choice : StmtTree → Bool
 is_choice (branch line test on_true on_false) = true
 is_choice _ = false
+
+-- a simplified statement; an `if` as it is
+abbrev pub simplified_stmt : StmtTree → StmtTree
+simplified_stmt (branch line test on_true on_false) = branch line test on_true on_false
+simplified_stmt (assign line f value) = fused_stmt (assign line f value)
+simplified_stmt (assign_at line f index value) = fused_stmt (assign_at line f index value)
+simplified_stmt (call line k target values) = fused_stmt (call line k target values)
 
 -- what an `if` does where its test holds, and of another statement these
 abbrev pub on_true_of : StmtTree → StmtTrees → StmtTrees

@@ -15,7 +15,7 @@ use c_syntax::{Cond, Expr, Stmt};
 use std::alloc::Global;
 
 /// A store in an item of an array, simplified.
-fn simplified_set_at(
+pub(crate) fn simplified_set_at(
     alloc: Global,
     line: u32,
     field: u32,

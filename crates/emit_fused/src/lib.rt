@@ -12,6 +12,7 @@ mod program;
 mod reading;
 mod sameness;
 mod simplifying;
+mod straight;
 mod turning;
 
 pub use laws::{fused_is_lawful, fused_refines, fusing_minds_no_lines};

@@ -4,16 +4,22 @@ ghost use Rattle.emit_fused.specs.Fused as fused_trees;
 ghost use Rattle.emit_fused.specs.Turned.{standing};
 
 use crate::fusing::fused_stmts;
+use crate::straight::{has_choice, simplified_stmts};
 use crate::turning::turned_round;
 use base_core::Memory;
 use c_syntax::{Procedure, Program, Stmt};
 use std::alloc::Global;
 
 /// A body whose statements are fused.
-fn fused_body(alloc: Global, ss: &[Stmt]) -> Result<Vec<Stmt>, Memory>
-    ensures { IfOk result (λ v. standing v.items ≡ fused_trees.fused_stmts (standing ss.now)) }
+#[tactic(auto, using(crate::proofs::StraightBodies::straight_fused))]
+fn fused_body(alloc: Global, body: Vec<Stmt>) -> Result<Vec<Stmt>, Memory>
+    ensures { IfOk result
+        (λ v. standing v.items ≡ fused_trees.fused_stmts (standing body.items)) }
 {
-    let list = fused_stmts(alloc, ss)?;
+    if !has_choice(body.as_slice()) {
+        return simplified_stmts(alloc, body);
+    }
+    let list = fused_stmts(alloc, body.as_slice())?;
     turned_round(alloc, list)
 }
 
@@ -28,7 +34,7 @@ fn fused_procedure(alloc: Global, q: Procedure) -> Result<Procedure, Memory>
         params,
         body,
     } = q;
-    let body = fused_body(alloc, body.as_slice())?;
+    let body = fused_body(alloc, body)?;
     Ok(Procedure {
         name,
         private,
