@@ -1,6 +1,6 @@
 -- The node that one by names stands for, from its parts.
-use Rattle.std.proofs.Common.{◌≡◌, ℕ, List, [], ◌∷◌, ◌++◌, Bool, map, length, refl, sym, ap, ◌∙◌}
-use Rattle.lustre_syntax.specs.Tree.{EquationTree, NodeTree, texts_of}
+use Rattle.std.proofs.Common.{◌≡◌, ℕ, List, [], ◌∷◌, Bool, map, length, refl, ap, ◌∙◌}
+use Rattle.lustre_syntax.specs.Tree.{EquationTree, texts_of}
 use Rattle.lustre_syntax.specs.Named.{NamedExpr, NamedEquation, NamedNode, renamed, renamed_equation, place_of, all_names}
 use Rattle.lustre_syntax.specs.Plain.{declared_names}
 use Rattle.lustre_expressions.specs.Placed.{placed_by}

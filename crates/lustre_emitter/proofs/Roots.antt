@@ -10,13 +10,13 @@ use Rattle.diagram_meaning.specs.Rows.{rows_of}
 use Rattle.modules_profile.specs.Systems.{system_name}
 use Rattle.emit_shape.specs.Names.{now_name, port_name}
 use Rattle.emit_row_facts.proofs.lemmas.Steps.{map-map, range-more}
-use Rattle.lustre_syntax.specs.Tree.{Declared, name, truth, call}
-use Rattle.lustre_syntax.specs.Named.{NamedEquation, renamed, all_names}
+use Rattle.lustre_syntax.specs.Tree.{name, truth, call}
+use Rattle.lustre_syntax.specs.Named.{renamed, all_names}
 use Rattle.lustre_system.specs.File.{root_node, output_names}
 use Rattle.lustre_system.specs.Functions.{int_name}
 use Rattle.lustre_system.specs.Names.{port_names}
 use Rattle.lustre_expressions.specs.PortKinds.{ordered, ports_among}
-use Rattle.lustre_emitter.specs.RootParts.{port_count, numbered_name, numbered_names, now_equation, top_equation, equations_of}
+use Rattle.lustre_emitter.specs.RootParts.{port_count, numbered_name, numbered_names, now_equation, equations_of}
 
 -- ---- Names by number
 

@@ -1,5 +1,5 @@
 -- The first number of a range that passes a test.
-use Rattle.std.proofs.Common.{◌≡◌, ℕ, zero, suc, ◌+◌, ◌<◌, ◌≤◌, Bool, true, false, cond, find, length, List, Option, Some, None, refl, sym, ap, ◌∙◌, arith, true≢false, inl, inr, ◌⊎◌}
+use Rattle.std.proofs.Common.{◌≡◌, ℕ, zero, suc, ◌+◌, ◌<◌, ◌≤◌, Bool, true, false, cond, find, length, List, Some, None, refl, sym, ap, ◌∙◌, arith, true≢false, inl, inr, ◌⊎◌}
 use Rattle.std.specs.List.{range_with_len}
 use Rattle.diagram_meaning.specs.declared.table.Row.{Row}
 use Rattle.diagram_meaning.specs.Rows.{row_numbers}

@@ -1,5 +1,5 @@
 -- Names of samples and of parameters.
-use Rattle.std.proofs.Common.{◌≡◌, ◌++◌, ◌∷◌, ◌<◌, ◌≤◌, ◌-◌, ◌+◌, ℕ, zero, suc, List, [], map, length, get_or, Option, Some, refl, sym, ap, ◌∙◌, codes, decimal, arith}
+use Rattle.std.proofs.Common.{◌≡◌, ◌++◌, ◌∷◌, ◌<◌, ◌≤◌, ◌-◌, ◌+◌, ℕ, zero, suc, List, [], map, length, get_or, Some, refl, ap, ◌∙◌, codes, decimal, arith}
 use Rattle.std.specs.Prelude.{slice_get, slice_index_or}
 use Rattle.base_core.specs.declared.Control.{Control}
 use Rattle.base_core.specs.declared.Port.{Port}

@@ -7,9 +7,9 @@ use Rattle.c_syntax.specs.Plain.{expr_tree}
 use Rattle.c_syntax.specs.Tree as code
 use Rattle.c_syntax.specs.Tree.{pure, no_exprs, more_exprs, exprs_of_list}
 use Rattle.lustre_syntax.specs.Tree.{ExprTree, EquationTree, name, call}
-use Rattle.lustre_syntax.specs.Named.{renamed, renamed_equation}
+use Rattle.lustre_syntax.specs.Named.{renamed_equation}
 use Rattle.lustre_system.specs.Functions.{function_name}
-use Rattle.lustre_system.specs.FromC.{value_from, values_from, calls_from, all_calls_from, call_count, call_counts}
+use Rattle.lustre_system.specs.FromC.{values_from, calls_from, all_calls_from, call_count, call_counts}
 use Rattle.lustre_expressions.specs.Placed.{Naming, placed_value, placed_values, placed_calls, all_placed_calls}
 
 -- what is left of all expressions, after these values and equations and n calls

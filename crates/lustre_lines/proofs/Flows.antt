@@ -1,11 +1,11 @@
 -- The flows of two files that differ in lines alone.
-use Rattle.std.proofs.Common.{◌≡◌, ℕ, ◌-◌, List, [], ◌∷◌, map, length, refl, sym, ap, ◌∙◌, Option, None, Some, ℤ}
+use Rattle.std.proofs.Common.{◌≡◌, ◌-◌, List, [], ◌∷◌, map, length, refl, sym, ap, ◌∙◌, Option, None, Some, ℤ}
 use Rattle.std.specs.Prelude.{slice_index_or}
-use Rattle.lustre_syntax.specs.Tree.{NodeTree, node_at, FileTree, node_without_lines, without_lines}
+use Rattle.lustre_syntax.specs.Tree.{FileTree, without_lines}
 use Rattle.lustre_flows.specs.declared.stuck.LusStuck.{LusStuck}
 use Rattle.lustre_flows.specs.Instances.{Instance, no_instance, pass_at, passes_of, fresh_instances, name_count}
-use Rattle.lustre_flows.specs.Ticks.{last_place, fresh_root, root_pass, settle, settled, look_at, looks_of, told_of, failures, waiting, earlier_of, least_place, place_among, stuck_place, tick_from, done}
-use Rattle.lustre_flows.specs.Flows.{Flows, with_tick, flows_after, flows_from, flows}
+use Rattle.lustre_flows.specs.Ticks.{last_place, fresh_root, settle, settled, look_at, looks_of, told_of, failures, waiting, least_place, place_among, stuck_place, tick_from}
+use Rattle.lustre_flows.specs.Flows.{with_tick, flows_after, flows_from, flows}
 use Rattle.lustre_lines.proofs.Nodes.{alike, length-aside}
 use Rattle.lustre_lines.proofs.Passes.{fresh-aside, passes-aside}
 use Rattle.lustre_lines.proofs.Looks.{whys, Told, IsAside, failures-aside, waiting-aside, looks-aside}

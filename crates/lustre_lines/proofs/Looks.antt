@@ -3,7 +3,7 @@ use Rattle.std.proofs.Common.{◌≡◌, ℕ, zero, suc, List, [], ◌∷◌, �
 use Rattle.std.specs.Prelude.{flat_map, if◌then◌else◌, slice_index_or}
 use Rattle.std.specs.List.{list_all}
 use Rattle.std.proofs.lemmas.List.{map-append}
-use Rattle.lustre_syntax.specs.Tree.{ExprTree, EquationTree, set, call, NodeTree, equation_without_lines, node_without_lines, expressions_of, line_of, given_by}
+use Rattle.lustre_syntax.specs.Tree.{ExprTree, EquationTree, set, call, NodeTree, equation_without_lines, node_without_lines}
 use Rattle.lustre_flows.specs.declared.stuck.LusStuck.{LusStuck}
 use Rattle.lustre_flows.specs.declared.stuck.LusWhy.{LusWhy}
 use Rattle.lustre_flows.specs.declared.stuck.LusWhy.TheVariants.{Cycle}

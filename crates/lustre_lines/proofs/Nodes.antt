@@ -1,7 +1,7 @@
 -- Nodes on other lines: their names, ports and callees stay.
-use Rattle.std.proofs.Common.{◌≡◌, ℕ, zero, suc, List, [], ◌∷◌, ◌++◌, Bool, map, length, take, get_or, refl, sym, ap, ◌∙◌}
+use Rattle.std.proofs.Common.{◌≡◌, ℕ, zero, suc, List, [], ◌∷◌, ◌++◌, map, length, take, refl, sym, ap, ◌∙◌}
 use Rattle.std.specs.Prelude.{flat_map}
-use Rattle.lustre_syntax.specs.Tree.{EquationTree, set, call, NodeTree, no_node, node_at, FileTree, node_texts, equation_without_lines, node_without_lines, without_lines}
+use Rattle.lustre_syntax.specs.Tree.{EquationTree, set, call, NodeTree, node_at, FileTree, node_texts, equation_without_lines, node_without_lines, without_lines}
 use Rattle.lustre_flows.specs.Instances.{by_node}
 use Rattle.lustre_right.specs.Paths.{callee_of, callees}
 

@@ -1,8 +1,8 @@
 -- Instances and passes of nodes on other lines.
-use Rattle.std.proofs.Common.{◌≡◌, ℕ, List, [], ◌∷◌, map, replicate, length, refl, sym, ap, ◌∙◌, Option, None, Some, option_map, ℤ, slice_index_or}
+use Rattle.std.proofs.Common.{◌≡◌, ℕ, List, [], ◌∷◌, map, replicate, length, refl, ap, ◌∙◌, Option, None, Some, option_map, ℤ, slice_index_or}
 use Rattle.lustre_syntax.specs.Tree.{EquationTree, set, call, NodeTree, node_at, equation_without_lines, node_without_lines}
 use Rattle.lustre_flows.specs.Values.{value_at, value_of, evaluate}
-use Rattle.lustre_flows.specs.Instances.{Instance, Instances, instance, first_call, later_calls, calls_in, values_in, no_instance, more_calls, no_calls, with_items, with_call, outputs_of, Pass, pass_at, pass_equations, pass_of, passes_of, fresh_calls, fresh, fresh_instances}
+use Rattle.lustre_flows.specs.Instances.{Instance, Instances, instance, first_call, later_calls, calls_in, values_in, no_instance, more_calls, with_items, with_call, outputs_of, Pass, pass_at, pass_equations, pass_of, passes_of, fresh_calls, fresh, fresh_instances}
 use Rattle.lustre_system.specs.FunctionRules.{called}
 use Rattle.lustre_lines.proofs.Nodes.{by-node-aside, node-at-aside}
 

@@ -1,31 +1,27 @@
 -- A file on other lines is right where the file is.
-use Rattle.std.proofs.Common.{◌≡◌, ℕ, ◌-◌, ◌<◌, List, [], ◌∷◌, ◌++◌, Bool, true, map, take, length, refl, sym, ap, subst, ◌∙◌, Option, None, Some, ℤ, pos}
-use Rattle.std.specs.Prelude.{Contains, ◌&&◌, ◌^◌, filter, nat_le, slice_index_or, replicate, unwrap_or, ◌==◌, option_and_then, ⊤}
+use Rattle.std.proofs.Common.{◌≡◌, ℕ, ◌-◌, List, [], ◌∷◌, Bool, true, map, take, length, refl, sym, ap, subst, ◌∙◌, Option, Some, ℤ, pos}
+use Rattle.std.specs.Prelude.{Contains, ◌&&◌, ◌^◌, filter, nat_le, slice_index_or, unwrap_or, ◌==◌, option_and_then}
 use Rattle.std.specs.List.{AllByRecursion, list_all, position_from}
-use Rattle.base_fixed_point.specs.declared.Case.{Case}
 use Rattle.base_fixed_point.specs.declared.FixType.{FixType}
 use Rattle.base_fixed_point.specs.declared.Over.{Over}
 use Rattle.base_fixed_point.specs.declared.Over.TheVariants.{Saturate, Wrap}
 use Rattle.base_fixed_point.specs.Conversion.{least_of, greatest_of}
 use Rattle.emit_prelude.specs.Rules.{rounding_position}
-use Rattle.diagram_blocks.specs.Meaning.{has_value}
 use Rattle.diagram_meaning.specs.Diagram.{Diagram}
-use Rattle.diagram_meaning.specs.Rows.{row_at, rows_of, subsystems_of}
-use Rattle.diagram_meaning.specs.Traces.{IsTrace}
+use Rattle.diagram_meaning.specs.Rows.{subsystems_of}
 use Rattle.emit_shape.specs.Names.{value_name, root_name}
 use Rattle.modules_profile.specs.Systems.{systems, system_name}
 use Rattle.lustre_syntax.specs.Tree.{Declared, EquationTree, set, call, NodeTree, node_at, FileTree, texts_of, node_texts, equation_without_lines, node_without_lines, without_lines}
-use Rattle.lustre_syntax.specs.Lawful.{IsLawful}
 use Rattle.lustre_syntax.specs.Named.{place_of}
 use Rattle.lustre_syntax.specs.Typing.{input_types, output_types}
-use Rattle.lustre_flows.specs.Flows.{Flows, flows, outputs, flow_at}
+use Rattle.lustre_flows.specs.Flows.{Flows, flows, outputs}
 use Rattle.lustre_flows.specs.Instances.{Instance, no_instance, outputs_of, values_in}
 use Rattle.lustre_flows.specs.Ticks.{last_place, last_node, root_outputs, inside}
 use Rattle.lustre_flows.specs.Values.{value_at}
 use Rattle.lustre_system.specs.Functions.{int_name}
 use Rattle.lustre_system.specs.FunctionRules.{called, cast_call, is_function, AreFunctions}
-use Rattle.lustre_right.specs.Paths.{node_place, node_named, name_place, callees, call_place, path_through, systems_to, path_to}
-use Rattle.lustre_right.specs.Right.{function_count, HasSystem, HasPorts, HasNodes, GivesFlows, IsLustreOf}
+use Rattle.lustre_right.specs.Paths.{node_place, node_named, name_place, callees, call_place, path_through, systems_to}
+use Rattle.lustre_right.specs.Right.{function_count, HasSystem, HasNodes, GivesFlows}
 use Rattle.lustre_lines.specs.LineLaws.{LinesMeanNothing}
 use Rattle.lustre_lines.proofs.Nodes.{alike, alike-at, each-aside, texts-aside, callees-aside}
 use Rattle.lustre_lines.proofs.Passes.{called-aside}

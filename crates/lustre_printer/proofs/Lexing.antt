@@ -5,9 +5,9 @@ use Rattle.std.specs.Char.{is_ascii_digit}
 use Rattle.std.proofs.lemmas.Fmt.{decimal_nonempty}
 use Rattle.std.proofs.lemmas.Slice.Eq.{bytes_eq-Decides}
 use Rattle.base_core.specs.Numbers.{reported_number}
-use Rattle.c_grammar.specs.Tokens.{Token, class_of, word_class, token, piece_tokens, line_after}
+use Rattle.c_grammar.specs.Tokens.{Token, class_of, token, piece_tokens, line_after}
 use Rattle.c_grammar.proofs.lemmas.LiteralLaws.{and_first, and_second, IsNumeralOf, numeral}
-use Rattle.c_syntax.specs.Names.{is_lower, is_word_byte, starts_lower, is_name}
+use Rattle.c_syntax.specs.Names.{is_word_byte, starts_lower, is_name}
 use Rattle.lustre_syntax.specs.Names.{words, is_lustre_name}
 use Rattle.lustre_grammar.specs.Tokens.{piece_of, tokens_from}
 use Rattle.c_printer.proofs.lemmas.Bytes.{lines_after, take_while-all, words_on_one_line, class_of-lower, class_of-digit, name-parts}

@@ -1,24 +1,23 @@
 -- What printed nodes spell is resolved to what they are printed from.
-use Rattle.std.proofs.Common.{◌≡◌, refl, sym, ◌∙◌, ap, subst, ℕ, zero, suc, ◌+◌, ◌<◌, ◌≤◌, List, [], ◌∷◌, ◌++◌, length, map, take, drop, Bool, true, false, not, ◌&&◌, ◌||◌, if◌then◌else◌, Some, Ok, slice_get, arith}
+use Rattle.std.proofs.Common.{◌≡◌, refl, sym, ◌∙◌, ap, subst, ℕ, zero, suc, ◌+◌, ◌<◌, ◌≤◌, List, [], ◌∷◌, ◌++◌, length, map, take, drop, Bool, true, false, not, ◌&&◌, ◌||◌, if◌then◌else◌, Ok, arith}
 use Rattle.std.specs.Prelude.{flat_map}
 use Rattle.std.specs.List.{AllByRecursion, list_all}
-use Rattle.std.proofs.lemmas.List.{append_assoc, append-nil, map-append, length-map, length-take-le, length-drop, length-append, take-map, drop-map, take-append-drop}
+use Rattle.std.proofs.lemmas.List.{append_assoc, map-append, length-map, length-take-le, length-drop, take-map, drop-map, take-append-drop}
 use Rattle.std.proofs.lemmas.Bool.{le-ltb}
 use Rattle.std.proofs.lemmas.Simd.{map-map}
-use Rattle.base_core.specs.Results.{◌>>=◌, ◌>>◌}
 use Rattle.base_core.specs.Numbers.{reported_number}
 use Rattle.c_syntax.specs.Names.{name_at}
 use Rattle.c_syntax.specs.Outputs.{has_name}
 use Rattle.c_syntax.specs.Lawful.{AreApart}
 use Rattle.c_syntax.proofs.lemmas.NameFacts.{AreApart-more, AreApart-none}
 use Rattle.c_rules.specs.Resolve.{check_params}
-use Rattle.lustre_syntax.specs.Tree.{ValueType, int, EquationTree, set, call, Declared, NodeTree, texts_of, types_of, node_texts, given_by}
+use Rattle.lustre_syntax.specs.Tree.{ValueType, int, EquationTree, set, call, Declared, NodeTree, texts_of, given_by}
 use Rattle.lustre_syntax.specs.Typing.{same_type, input_types, output_types}
-use Rattle.lustre_syntax.specs.Lawful.{AreDistinct, equations_of, equations_wanted, IsLawfulNode}
-use Rattle.lustre_grammar.specs.Written.{WrittenEquation, WrittenDeclared, WrittenNode}
+use Rattle.lustre_syntax.specs.Lawful.{AreDistinct, IsLawfulNode}
+use Rattle.lustre_grammar.specs.Written.{WrittenDeclared, WrittenNode}
 use Rattle.lustre_rules.specs.Resolve.{written_given, all_given, has_ints, written_names, declared_names, resolve_head, resolve_node}
 use Rattle.lustre_printer.specs.Printing.{inputs_of, outputs_of, others_of}
-use Rattle.lustre_printer.proofs.PrintedTrees.{written_equation, written_equations, written_declared, written_others, body_line, written_node, read_node, read_equations}
+use Rattle.lustre_printer.proofs.PrintedTrees.{written_equation, written_equations, written_declared, written_others, body_line, written_node, read_node}
 use Rattle.lustre_printer.proofs.PrintedNodes.{parts}
 use Rattle.lustre_printer.proofs.PrintedGiven.{Wants, wants-all, times, times-some}
 use Rattle.lustre_printer.proofs.PrintedResolving.{AreRead, HasPlaces, equations-resolved}

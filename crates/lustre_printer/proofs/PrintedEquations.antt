@@ -1,5 +1,5 @@
 -- Printed expressions and equations spell what they are printed from.
-use Rattle.std.proofs.Common.{◌≡◌, refl, sym, subst, ℕ, ◌+◌, ◌<◌, pos, List, [], ◌∷◌, ◌++◌, Bool, true, false, map, unsigned_abs, decimal, codes}
+use Rattle.std.proofs.Common.{◌≡◌, refl, sym, subst, ℕ, ◌+◌, ◌<◌, List, [], ◌∷◌, ◌++◌, Bool, true, false, map, unsigned_abs, decimal, codes}
 use Rattle.std.specs.Prelude.{⊤}
 use Rattle.std.specs.List.{AllByRecursion}
 use Rattle.std.proofs.lemmas.List.{append_assoc}
@@ -12,7 +12,7 @@ use Rattle.lustre_syntax.specs.declared.code.LusOp.TheVariants.{Eq, Sub}
 use Rattle.lustre_syntax.specs.Lawful.{HasLiterals}
 use Rattle.lustre_grammar.specs.Grammar.{truth_text, op_text, number_word, expr_spelling, given_spelling, equation_spelling, name_word}
 use Rattle.lustre_printer.specs.Printing.{expr_bytes, parted, equation_bytes}
-use Rattle.lustre_printer.proofs.Lexing.{IsTokenBefore, Ends, name-token}
+use Rattle.lustre_printer.proofs.Lexing.{Ends, name-token}
 use Rattle.lustre_printer.proofs.PrintedTrees.{written_expr, written_equation}
 use Rattle.lustre_printer.proofs.TextReading.{Reads, ◌▸◌, along, reads-nothing, spaced, line_ended, reads-word, reads-line, keyword, reads-name, reads-name_line, reads-literal, semicolon, comma, open_paren, close_paren, sign, ends-space, ends-sign, parens, op-token, arrow-token, later_text, ends-later, parted-read}
 

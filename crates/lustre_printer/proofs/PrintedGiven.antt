@@ -1,21 +1,16 @@
 -- Each name but the inputs is given once.
-use Rattle.std.proofs.Common.{◌≡◌, ◌⊎◌, inl, inr, refl, sym, ◌∙◌, ap, subst, ℕ, zero, suc, ◌+◌, ◌<◌, ◌≤◌, List, [], ◌∷◌, ◌++◌, length, map, filter, drop, Bool, true, false, not, ◌&&◌, ◌||◌, cond, ◌==◌, eqb, nat_le, nat_lt, if◌then◌else◌, arith, bytes_eq, Ok}
+use Rattle.std.proofs.Common.{◌≡◌, refl, ◌∙◌, ap, subst, ℕ, zero, suc, ◌+◌, ◌<◌, ◌≤◌, List, [], ◌∷◌, ◌++◌, length, map, filter, Bool, true, false, ◌||◌, ◌==◌, eqb, nat_lt, if◌then◌else◌, arith, bytes_eq}
 use Rattle.std.specs.Prelude.{flat_map}
-use Rattle.std.specs.List.{AllByRecursion, list_any, list_all, range_with_len}
+use Rattle.std.specs.List.{AllByRecursion, list_any, range_with_len}
 use Rattle.std.proofs.lemmas.Bool.{le-leb, eqb-true, eqb-false, eq-eqb, ltb-false}
 use Rattle.std.proofs.lemmas.List.{length-append}
 use Rattle.std.proofs.lemmas.List.Elements.{filter-append}
-use Rattle.base_core.specs.Results.{◌>>=◌, ◌>>◌}
 use Rattle.c_syntax.specs.Names.{name_at}
 use Rattle.c_syntax.specs.Outputs.{has_name}
 use Rattle.c_syntax.proofs.lemmas.NamePlaces.{bytes_eq-same}
-use Rattle.c_rules.specs.Resolve.{unless_fault}
-use Rattle.c_syntax.specs.declared.fault.CKind.TheVariants.{Name}
-use Rattle.lustre_syntax.specs.Tree.{Declared, texts_of, EquationTree, NodeTree, given_by}
-use Rattle.lustre_syntax.specs.Lawful.{AreDistinct, equations_of, equations_wanted}
-use Rattle.lustre_rules.specs.Resolve.{Scope, may_be_given, resolve_given, resolve_all_given}
-use Rattle.lustre_printer.proofs.Names.{place-name}
-use Rattle.lustre_printer.proofs.PrintedEquations.{all-front, all-back}
+use Rattle.lustre_syntax.specs.Tree.{Declared, NodeTree, given_by}
+use Rattle.lustre_syntax.specs.Lawful.{equations_of, equations_wanted}
+use Rattle.lustre_rules.specs.Resolve.{may_be_given}
 
 -- how often a place is given
 abbrev pub times : ℕ → List ℕ → ℕ

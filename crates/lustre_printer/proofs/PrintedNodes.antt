@@ -1,20 +1,20 @@
 -- Printed nodes and files spell what they are printed from.
-use Rattle.std.proofs.Common.{◌≡◌, refl, sym, ◌∙◌, ap, subst, ℕ, ◌+◌, ◌<◌, List, [], ◌∷◌, ◌++◌, Bool, true, false, Some, map, length, take, drop, codes, arith}
+use Rattle.std.proofs.Common.{◌≡◌, refl, sym, ◌∙◌, ap, subst, ℕ, ◌+◌, ◌<◌, List, [], ◌∷◌, ◌++◌, true, false, map, length, take, drop, codes, arith}
 use Rattle.std.specs.Prelude.{flat_map}
 use Rattle.std.specs.List.{AllByRecursion}
 use Rattle.std.proofs.lemmas.List.{append_assoc, append-nil, take-append-drop}
 use Rattle.base_core.specs.Numbers.{reported_number}
 use Rattle.c_syntax.specs.Names.{name_at}
-use Rattle.c_grammar.specs.Grammar.{◌⨾◌, word, all_spelling, some_spelling}
+use Rattle.c_grammar.specs.Grammar.{word, all_spelling, some_spelling}
 use Rattle.lustre_syntax.specs.Names.{is_lustre_name}
-use Rattle.lustre_syntax.specs.Tree.{ValueType, EquationTree, set, call, Declared, NodeTree, FileTree, texts_of, node_texts, given_by, expressions_of}
+use Rattle.lustre_syntax.specs.Tree.{ValueType, EquationTree, Declared, NodeTree, FileTree, texts_of, node_texts, given_by, expressions_of}
 use Rattle.lustre_grammar.specs.Tokens.{tokens_of}
 use Rattle.lustre_grammar.specs.Grammar.{type_text, declared_spelling, equation_spelling, ports_spelling, other_spelling, others_spelling, node_spelling, Spells}
 use Rattle.lustre_printer.specs.Printing.{parted, equation_bytes, declared_bytes, ports_bytes, others_bytes, inputs_of, outputs_of, others_of, interface_bytes, node_bytes, file_bytes}
 use Rattle.lustre_printer.proofs.Lexing.{Ends, word-token}
 use Rattle.lustre_printer.proofs.PrintedTrees.{written_equations, written_declared, written_others, others_lines, body_line, written_node, next_line, written_nodes, lines_after_nodes, written_file}
 use Rattle.lustre_printer.proofs.PrintedEquations.{all-front, all-back, enclosed, CanBePrinted, HasCallee, equation-read}
-use Rattle.lustre_printer.proofs.TextReading.{Reads, ◌▸◌, along, ending, reads-nothing, spaced, lined, line_ended, reads-line, keyword, reads-name, reads-name_line, semicolon, colon, open_paren, close_paren, sign, ends-space, ends-line, ends-sign, parens, parted-read}
+use Rattle.lustre_printer.proofs.TextReading.{Reads, ◌▸◌, along, ending, reads-nothing, spaced, lined, line_ended, reads-line, keyword, reads-name, reads-name_line, semicolon, colon, close_paren, sign, ends-space, ends-line, ends-sign, parens, parted-read}
 
 -- the name is one of the language
 abbrev pub IsNamed : Declared → Type 0

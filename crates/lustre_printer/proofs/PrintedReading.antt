@@ -1,5 +1,5 @@
 -- The text of a lawful file is read as it, lines aside.
-use Rattle.std.proofs.Common.{◌≡◌, ◌⊎◌, inl, inr, refl, sym, ◌∙◌, ap, subst, ℕ, zero, suc, ◌+◌, ◌<◌, ◌≤◌, List, [], ◌∷◌, ◌++◌, length, map, get_or, Bool, true, false, Some, Ok, slice_get, arith}
+use Rattle.std.proofs.Common.{◌≡◌, ◌⊎◌, inl, inr, refl, sym, ◌∙◌, ap, subst, ℕ, zero, suc, ◌+◌, ◌<◌, ◌≤◌, List, [], ◌∷◌, ◌++◌, length, map, true, Some, Ok, slice_get, arith}
 use Rattle.std.specs.Prelude.{flat_map}
 use Rattle.std.specs.List.{AllByRecursion}
 use Rattle.std.proofs.lemmas.List.{append_assoc, append-nil, map-append, length-map, length-append, get_or_append_left}
@@ -7,20 +7,18 @@ use Rattle.std.proofs.lemmas.Option.{slice_get_within, same_Some}
 use Rattle.base_core.specs.Numbers.{reported_number}
 use Rattle.base_core.specs.Results.{◌>>=◌}
 use Rattle.c_syntax.specs.Names.{name_at}
-use Rattle.c_syntax.specs.declared.fault.CFault.{CFault}
 use Rattle.lustre_syntax.specs.Names.{is_lustre_name}
-use Rattle.lustre_syntax.specs.Tree.{ExprTree, EquationTree, set, call, Declared, NodeTree, FileTree, texts_of, node_texts, names_read, given_by, expressions_of, equation_without_lines, node_without_lines, without_lines}
+use Rattle.lustre_syntax.specs.Tree.{EquationTree, set, call, NodeTree, FileTree, texts_of, node_texts, given_by, expressions_of, equation_without_lines, node_without_lines}
 use Rattle.lustre_syntax.specs.Lawful.{expr_depth, expr_limit, AreDistinct, Agrees, IsWritable, IsLawfulNode, AreNodes, EndsWithInts, IsLawful}
 use Rattle.lustre_grammar.specs.Tokens.{tokens_of}
-use Rattle.lustre_grammar.specs.Written.{WrittenFile}
 use Rattle.lustre_grammar.specs.Grammar.{Spells}
-use Rattle.lustre_rules.specs.Resolve.{is_end, resolve_node, resolve_nodes, resolve_file}
-use Rattle.lustre_rules.specs.Reading.{IsShallow, IsWithinLimit, LustreText, IsTextOf}
+use Rattle.lustre_rules.specs.Resolve.{is_end, resolve_nodes, resolve_file}
+use Rattle.lustre_rules.specs.Reading.{IsShallow, LustreText, IsTextOf}
 use Rattle.lustre_reading_laws.specs.ReadingLaws.{HasOneReading, HasOneFault}
 use Rattle.lustre_reading_laws.proofs.lemmas.Readings.{texts_are_judged}
 use Rattle.lustre_printer.specs.Printing.{file_bytes}
 use Rattle.lustre_printer.proofs.Names.{distinct-named, declared-named, distinct-more}
-use Rattle.lustre_printer.proofs.PrintedTrees.{read_equation, read_equations, body_line, written_node, read_node, next_line, written_nodes, read_nodes, lines_after_nodes, written_file, read_file}
+use Rattle.lustre_printer.proofs.PrintedTrees.{read_equation, read_equations, body_line, read_node, next_line, written_nodes, read_nodes, lines_after_nodes, written_file, read_file}
 use Rattle.lustre_printer.proofs.PrintedEquations.{all-front, all-back, CanBePrinted, HasCallee}
 use Rattle.lustre_printer.proofs.PrintedNodes.{EquationCanBePrinted, NodeCanBePrinted, file-spelled}
 use Rattle.lustre_printer.proofs.PrintedValues.{IsWithin}

@@ -1,19 +1,17 @@
 -- What printed equations spell is resolved to what they are printed from.
-use Rattle.std.proofs.Common.{◌≡◌, refl, sym, ◌∙◌, ap, subst, ℕ, suc, ◌+◌, ◌<◌, ◌≤◌, List, [], ◌∷◌, ◌++◌, length, map, true, Some, Ok, slice_get, arith}
+use Rattle.std.proofs.Common.{◌≡◌, refl, sym, ◌∙◌, ap, subst, ℕ, ◌+◌, ◌<◌, List, [], ◌∷◌, ◌++◌, length, map, Some, Ok, slice_get}
 use Rattle.std.specs.Prelude.{flat_map}
 use Rattle.std.specs.List.{AllByRecursion}
 use Rattle.std.proofs.lemmas.List.{length-map}
 use Rattle.std.proofs.lemmas.Option.{slice_get_within}
-use Rattle.base_core.specs.Results.{◌>>=◌, ◌>>◌}
 use Rattle.base_core.specs.Numbers.{reported_number}
 use Rattle.c_syntax.specs.Names.{name_at}
-use Rattle.c_rules.specs.Resolve.{on_line, unless_fault, or_unnamed}
 use Rattle.lustre_syntax.specs.Tree.{EquationTree, set, call, Declared, NodeTree, texts_of, types_of, node_texts, given_by, expressions_of}
-use Rattle.lustre_syntax.specs.Typing.{type_at, fits, all_fit, have_types, input_types, output_types}
+use Rattle.lustre_syntax.specs.Typing.{type_at, fits, input_types}
 use Rattle.lustre_syntax.specs.Lawful.{AreDistinct, Agrees}
-use Rattle.lustre_rules.specs.Resolve.{Scope, place_named, resolve_given, resolve_all_given, node_named, word_type, resolve_set, resolve_call, resolve_equation, resolve_equations}
+use Rattle.lustre_rules.specs.Resolve.{Scope, place_named, resolve_given, resolve_all_given, node_named, resolve_equation, resolve_equations}
 use Rattle.lustre_printer.proofs.Names.{place-name}
-use Rattle.lustre_printer.proofs.PrintedTrees.{written_expr, written_equation, read_equation, written_equations, read_equations, read_node}
+use Rattle.lustre_printer.proofs.PrintedTrees.{written_equation, read_equation, written_equations, read_equations, read_node}
 use Rattle.lustre_printer.proofs.PrintedValues.{IsWithin, expr-resolved, exprs-resolved, expr-fits, exprs-fit}
 use Rattle.lustre_printer.proofs.PrintedGiven.{Wants, wants-next, wants-after, next-may}
 

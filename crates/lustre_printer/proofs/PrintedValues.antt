@@ -3,11 +3,10 @@ use Rattle.std.proofs.Common.{◌≡◌, refl, sym, ◌∙◌, ap, subst, ℕ, �
 use Rattle.std.specs.List.{AllByRecursion}
 use Rattle.std.proofs.lemmas.List.{length-map}
 use Rattle.std.proofs.lemmas.Option.{slice_get-get_or}
-use Rattle.base_core.specs.Results.{◌>>=◌}
 use Rattle.lustre_syntax.specs.Tree.{ValueType, int, ExprTree, number, truth, name, negative, negation, two, choice, arrow, previous, Declared, texts_of, types_of, names_read}
 use Rattle.lustre_syntax.specs.Lawful.{AreDistinct}
 use Rattle.lustre_syntax.specs.Typing.{of_name, type_at, typing, fits, all_fit}
-use Rattle.lustre_rules.specs.Resolve.{place_named, resolve_word, resolve_expr, resolve_exprs, word_type}
+use Rattle.lustre_rules.specs.Resolve.{resolve_word, resolve_expr, resolve_exprs, word_type}
 use Rattle.lustre_printer.proofs.Names.{position-name, place-name}
 use Rattle.lustre_printer.proofs.PrintedEquations.{all-front, all-back}
 use Rattle.lustre_printer.proofs.PrintedTrees.{word_at, written_expr}

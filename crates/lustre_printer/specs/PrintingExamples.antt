@@ -1,5 +1,5 @@
 -- A small file printed.
-use Rattle.std.specs.Prelude.{◌≡◌, true, List, [], ◌∷◌, Some, codes, pos, refl}
+use Rattle.std.specs.Prelude.{◌≡◌, true, [], ◌∷◌, Some, codes, pos, refl}
 use Rattle.std.specs.Fmt.{digits}
 use Rattle.c_syntax.specs.declared.fault.CKind.TheVariants.{Syntax}
 use Rattle.c_grammar.specs.Prefix.{fault_at}

@@ -2,7 +2,6 @@ use Rattle.std.proofs.Common.{◌≡◌, ℕ, List, [], ◌∷◌, ◌++◌, map
 use Rattle.c_syntax.specs.declared.program.Pure.{Pure}
 use Rattle.c_syntax.specs.Plain.{pure_tree}
 use Rattle.diagram_meaning.specs.ResolvedTree.{diagram_of}
-use Rattle.emit_prelude.specs.Bodies.{function_trees}
 use Rattle.emit_shape.specs.Names.{root_name}
 use Rattle.modules_profile.specs.Systems.{system_name}
 use Rattle.lustre_syntax.specs.Named.{place_of}

@@ -1,4 +1,4 @@
-use Rattle.std.proofs.Common.{◌≡◌, ℕ, List, [], ◌∷◌, ◌++◌, map, reverse, ap, ◌∙◌, Option}
+use Rattle.std.proofs.Common.{List, [], ◌∷◌, ◌++◌, map, reverse, ap, ◌∙◌}
 use Rattle.diagram_meaning.specs.ResolvedTree.{diagram_of}
 use Rattle.modules_profile.specs.Systems.{systems}
 use Rattle.lustre_syntax.specs.declared.file.LusNode.{LusNode}

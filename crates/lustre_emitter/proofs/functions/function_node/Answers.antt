@@ -1,4 +1,4 @@
-use Rattle.std.proofs.Common.{◌≡◌, ℕ, Bool, List, [], ◌∷◌, ◌++◌, map, length, codes, refl, sym, ap, append-nil, ◌∙◌, arith}
+use Rattle.std.proofs.Common.{ℕ, Bool, List, [], ◌∷◌, ◌++◌, map, length, codes, refl, sym, ap, append-nil, ◌∙◌, arith}
 use Rattle.std.proofs.lemmas.List.{length-map}
 use Rattle.c_syntax.specs.Plain.{expr_tree, pure_tree}
 use Rattle.lustre_syntax.specs.declared.code.LusEq.{LusEq}

@@ -1,4 +1,4 @@
-use Rattle.std.proofs.Common.{◌≡◌, ◌++◌, ◌<◌, ◌≤◌, length, map, sym, ap, ◌∙◌, arith}
+use Rattle.std.proofs.Common.{◌++◌, ◌≤◌, length, map, sym, ap, ◌∙◌, arith}
 use Rattle.c_syntax.specs.declared.program.Pure.{Pure}
 use Rattle.c_syntax.specs.Plain.{pure_tree}
 use Rattle.c_syntax.specs.Tree.{PureTree}

@@ -1,7 +1,6 @@
 use Rattle.std.proofs.Common.{◌≡◌, sym, ap, ◌∙◌, true, Bool, ℕ, nat_lt, option_map, get_or, Some}
 use Rattle.std.proofs.lemmas.Bool.{lt-ltb}
 use Rattle.std.proofs.lemmas.List.{get_or_default}
-use Rattle.base_core.specs.declared.Place.{Place}
 use Rattle.diagram_blocks.specs.declared.Op.TheVariants.{Nothing}
 use Rattle.diagram_blocks.specs.Meaning.{delay_length}
 use Rattle.diagram_meaning.specs.declared.table.Row.{Row}

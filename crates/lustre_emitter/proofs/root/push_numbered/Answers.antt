@@ -1,4 +1,4 @@
-use Rattle.std.proofs.Common.{◌≡◌, refl, ap}
+use Rattle.std.proofs.Common.{refl, ap}
 use Rattle.lustre_syntax.specs.Plain.{declared_names}
 use Rattle.lustre_system.specs.Functions.{int_name}
 use Rattle.lustre_emitter.proofs.Lists.{with-one}

@@ -1,4 +1,4 @@
-use Rattle.std.proofs.Common.{◌≡◌, List, [], ◌∷◌, ◌++◌, map, ap, ◌∙◌}
+use Rattle.std.proofs.Common.{List, [], ◌∷◌, ◌++◌, map, ap, ◌∙◌}
 use Rattle.lustre_syntax.specs.declared.code.LusEq.{LusEq}
 use Rattle.lustre_syntax.specs.Named.{place_of}
 use Rattle.lustre_syntax.specs.Plain.{equation_tree}

@@ -1,4 +1,4 @@
-use Rattle.std.proofs.Common.{◌≡◌, ℕ, Bool, List, map, ap, ◌∙◌}
+use Rattle.std.proofs.Common.{ℕ, Bool, List, map, ap, ◌∙◌}
 use Rattle.diagram_meaning.specs.ResolvedTree.{diagram_of}
 use Rattle.lustre_syntax.specs.Named.{NamedEquation, place_of, renamed_equation}
 use Rattle.lustre_syntax.specs.Plain.{equation_tree}

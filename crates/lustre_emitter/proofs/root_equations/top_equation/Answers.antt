@@ -1,4 +1,4 @@
-use Rattle.std.proofs.Common.{◌≡◌, ℕ, List, ◌∷◌, true, false, map, ap, ◌∙◌}
+use Rattle.std.proofs.Common.{ℕ, List, ◌∷◌, true, false, map, ap, ◌∙◌}
 use Rattle.lustre_syntax.specs.Tree.{name, truth, call}
 use Rattle.lustre_expressions.specs.Found.{place_in}
 use Rattle.lustre_emitter.specs.RootParts.{numbered_names}

@@ -1,4 +1,4 @@
-use Rattle.std.proofs.Common.{◌≡◌, ℕ, ◌++◌, ◌<◌, ◌≤◌, length, map, sym, ap, ◌∙◌, arith, Option, Bor}
+use Rattle.std.proofs.Common.{ℕ, ◌++◌, ◌≤◌, length, map, sym, ap, ◌∙◌, arith, Option, Bor}
 use Rattle.diagram_meaning.specs.declared.subsystem.Subsystem.{Subsystem}
 use Rattle.diagram_meaning.specs.Nested.{row_of, system_of}
 use Rattle.diagram_meaning.specs.ResolvedTree.{diagram_of}

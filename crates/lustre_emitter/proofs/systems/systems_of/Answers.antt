@@ -1,4 +1,4 @@
-use Rattle.std.proofs.Common.{◌≡◌, ℕ, List, ◌++◌, reverse, ap, ◌∙◌, Option, Bor}
+use Rattle.std.proofs.Common.{List, ◌++◌, reverse, ap, ◌∙◌, Bor}
 use Rattle.diagram_meaning.specs.declared.subsystem.Subsystem.{Subsystem}
 use Rattle.diagram_meaning.specs.Nested.{row_of, system_of}
 use Rattle.modules_profile.specs.TreeProfiles.{rows_inside}

@@ -1,4 +1,4 @@
-use Rattle.std.proofs.Common.{◌≡◌, ℕ, List, ◌++◌, ◌≤◌, length, map, sym, ap, ◌∙◌, arith, Option, Bor}
+use Rattle.std.proofs.Common.{ℕ, List, ◌++◌, ◌≤◌, length, map, sym, ap, ◌∙◌, arith, Option, Bor}
 use Rattle.std.proofs.lemmas.List.{take_all}
 use Rattle.diagram_meaning.specs.declared.subsystem.Subsystem.{Subsystem}
 use Rattle.diagram_meaning.specs.Nested.{row_of, system_of}

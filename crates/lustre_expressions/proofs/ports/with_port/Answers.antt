@@ -1,4 +1,4 @@
-use Rattle.std.proofs.Common.{ℕ, Bool, eqb, sym, ap, ◌∙◌}
+use Rattle.std.proofs.Common.{eqb, sym, ap, ◌∙◌}
 use Rattle.std.proofs.lemmas.Bool.{eq-eqb, ne_eqb}
 use Rattle.diagram_blocks.specs.Kinds.{port_of}
 use Rattle.diagram_meaning.specs.Rows.{row_at}

@@ -1,12 +1,11 @@
-use Rattle.std.proofs.Common.{ℕ, ◌≡◌, sym, ◌∙◌, ap, subst, map, drop, length, List, ◌+◌, ◌++◌, [], arith}
+use Rattle.std.proofs.Common.{◌≡◌, sym, ◌∙◌, ap, subst, map, drop, List, ◌+◌, ◌++◌, arith}
 use Rattle.c_rules.proofs.lemmas.Each.{map_push}
-use Rattle.c_rules.proofs.lemmas.ParamLaws.{from_place, from_end}
+use Rattle.c_rules.proofs.lemmas.ParamLaws.{from_place}
 use Rattle.c_syntax.specs.declared.code.Expr.{Expr}
-use Rattle.c_syntax.specs.Tree.{ExprTree, ExprTrees, pure, exprs_of_list, no_exprs}
+use Rattle.c_syntax.specs.Tree.{ExprTrees, pure, exprs_of_list}
 use Rattle.c_syntax.specs.Plain.{expr_tree}
 use Rattle.c_syntax.proofs.lemmas.PlainLaws.{expr_tree-Pure}
 use Rattle.lustre_syntax.specs.declared.code.LusExpr.{LusExpr}
-use Rattle.lustre_syntax.specs.Tree.{EquationTree}
 use Rattle.lustre_syntax.specs.Plain as lustre
 use Rattle.lustre_system.specs.FromC as from_c
 use Rattle.lustre_expressions.specs.Placed.{placed_value, placed_values, placed_calls, all_placed_calls}
