@@ -1,5 +1,5 @@
 // Code with the bodies of helpers where they are called.
-ghost use Rattle.std.specs.Prelude.{◌≡◌, IfOk, map, slice_index_or};
+ghost use Rattle.std.specs.Prelude.{◌≡◌, IfOk, MatchOption, map, slice_index_or};
 ghost use Rattle.c_syntax.specs.Tree.{more_stmts, no_stmts, stmts_of_list};
 ghost use Rattle.c_syntax.specs.Plain.{procedure_tree, stmt_tree};
 ghost use Rattle.emit_pruned.specs.Marks.{flag_at};
@@ -52,21 +52,19 @@ fn placed_stmts(alloc: Global, places: &Places, ss: &[Stmt]) -> Result<Vec<Stmt>
     moved_stmts(alloc, &moves, ss)
 }
 
-/// A statement with its calls at new positions, alone.
-fn placed_stmt(alloc: Global, places: &Places, s: &Stmt) -> Result<Vec<Stmt>, Memory>
-    ensures { IfOk result (λ v. stmts_of_list (map stmt_tree v.items)
-        ≡ more_stmts (code.moved_stmt itself (place_in places.now) (stmt_tree s.now)) no_stmts) }
+/// A statement with its calls at new positions.
+fn placed_stmt(alloc: Global, places: &Places, s: &Stmt) -> Result<Stmt, Memory>
+    ensures { IfOk result
+        (λ x. stmt_tree x ≡ code.moved_stmt itself (place_in places.now) (stmt_tree s.now)) }
 {
     let params = Params::Itself;
     let moves = Moves {
         params: &params,
         places,
     };
-    let mut alone = copied_stmt(alloc, s)?;
-    rename_stmt(&moves, &mut alone);
-    let mut list = Vec::new(alloc);
-    list.push(alone)?;
-    Ok(list)
+    let mut placed = copied_stmt(alloc, s)?;
+    rename_stmt(&moves, &mut placed);
+    Ok(placed)
 }
 
 /// The body of a helper, which reads the parameters that are passed on.
@@ -89,27 +87,28 @@ fn placed_body(
     moved_stmts(alloc, &moves, body)
 }
 
-/// What goes where a statement is: the body of the helper that it calls, or itself.
-fn in_place_of(
+/// The body that goes where a statement is, if it calls a helper; else it stays itself.
+fn called_body(
     alloc: Global,
     procedures: &[Procedure],
     helpers: &[bool],
     places: &Places,
     s: &Stmt,
-) -> Result<Vec<Stmt>, Memory>
-    ensures { IfOk result (λ v. stmts_of_list (map stmt_tree v.items)
-        ≡ in_place_by (map procedure_tree procedures.now) (flag_at helpers.now) (place_in places.now)
-        (stmt_tree s.now)) }
+) -> Result<Option<Vec<Stmt>>, Memory>
+    ensures { IfOk result (λ o. MatchOption o
+        (more_stmts (code.moved_stmt itself (place_in places.now) (stmt_tree s.now)) no_stmts
+        ≡ in_place_by (map procedure_tree procedures.now) (flag_at helpers.now)
+        (place_in places.now) (stmt_tree s.now))
+        (λ v. stmts_of_list (map stmt_tree v.items)
+        ≡ in_place_by (map procedure_tree procedures.now) (flag_at helpers.now)
+        (place_in places.now) (stmt_tree s.now))) }
 {
     match helper_call(alloc, helpers, s)? {
         Some(found) => {
             let body = placed_body(alloc, procedures, places, found)?;
-            Ok(body)
+            Ok(Some(body))
         }
-        None => {
-            let alone = placed_stmt(alloc, places, s)?;
-            Ok(alone)
-        }
+        None => Ok(None),
     }
 }
 
@@ -125,10 +124,12 @@ fn inlined_stmts(
         ≡ stmts_by (map procedure_tree procedures.now) (flag_at helpers.now) (place_in places.now)
         (stmts_of_list (map stmt_tree ss.now))) }
 {
-    let mut list = Vec::new(alloc);
+    let mut list = Vec::with_capacity(alloc, ss.len())?;
     for s in ss {
-        let mut more = in_place_of(alloc, procedures, helpers, places, s)?;
-        list.append(&mut more)?;
+        match called_body(alloc, procedures, helpers, places, s)? {
+            Some(mut body) => list.append(&mut body)?,
+            None => list.push(placed_stmt(alloc, places, s)?)?,
+        }
     }
     Ok(list)
 }
