@@ -1,5 +1,5 @@
 -- A program that stores the memory of its delay early doesn't give what the file of the model gives.
-use Rattle.std.specs.Prelude.{◌≡◌, refl, ℕ, ◌==◌, false, List, slice_index_or, pos, nat_abs, ℤ}
+use Rattle.std.specs.Prelude.{◌≡◌, refl, ℕ, ◌==◌, false, List, [], slice_index_or, pos, nat_abs, ℤ}
 use Rattle.std.specs.Fmt.{digits}
 use Rattle.std.proofs.Common.{sym, ap, ◌∙◌, true≢false}
 use Rattle.std.proofs.lemmas.Bool.{eq-eqb}
