@@ -1,3 +1,4 @@
 pub mod Also
 pub mod Placed
 pub mod RowParts
+pub mod SystemScopes

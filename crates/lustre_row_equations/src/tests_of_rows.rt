@@ -1,9 +1,8 @@
 // The tests of a row: whether it runs, and whether its output is reset.
-ghost use Rattle.std.specs.Prelude.{◌≡◌, ◌<◌, ℕ, Option, None, IfOk, if◌then◌else◌, length};
+ghost use Rattle.std.specs.Prelude.{◌≡◌, ℕ, Option, None, IfOk, if◌then◌else◌};
 ghost use Rattle.std.specs.Option.{option_map};
 ghost use Rattle.diagram_blocks.specs.Kinds.{is_reset_outport};
 ghost use Rattle.diagram_meaning.specs.Diagram.{Diagram};
-ghost use Rattle.diagram_meaning.specs.ResolvedTree.{diagram_of};
 ghost use Rattle.diagram_meaning.specs.Rows.{row_at, system_control};
 ghost use Rattle.c_syntax.specs.Plain.{cond_tree};
 ghost use Rattle.emit_row_code.specs.TestCode as code;
@@ -12,13 +11,14 @@ ghost use Rattle.lustre_system.specs.Names as system_names;
 ghost use Rattle.lustre_system.specs.RowEquations as rows;
 ghost use Rattle.lustre_expressions.specs.Scopes.{AreNamesOf};
 ghost use Rattle.lustre_row_equations.specs.Placed.{placed_expr};
+ghost use Rattle.lustre_row_equations.specs.SystemScopes.{HasOwnNames, HasRow, diagram_in};
 
 use crate::building::also;
 use crate::leaves::{control_leaves, now_leaf};
 use crate::reading::time_at;
+use crate::scopes::SystemScope;
 use base_core::Memory;
 use c_syntax::Cond;
-use diagram_meaning::Resolved;
 use emit_row_code::{disabled_by, hit_test};
 use lustre_expressions::{Calls, RowNames, test_from};
 use lustre_syntax::LusExpr;
@@ -45,43 +45,37 @@ pub fn test_value(
 }
 
 /// Whether row `b` runs.
-pub(crate) fn runs(
-    alloc: Global,
-    r: &Resolved,
-    names: &RowNames<'_, '_, '_, '_>,
-    system: Option<u32>,
-    b: u32,
-) -> Result<LusExpr, Memory>
-    requires inside { b < length r.now.tree.table.rows }
-    requires named { AreNamesOf names.now r.now.tree.table.rows system None }
-    ensures { IfOk result (λ e. expr_tree e
-        ≡ placed_expr names.now (rows.runs (diagram_of r.now) system b)) }
+pub(crate) fn runs(alloc: Global, scope: &SystemScope, b: u32) -> Result<LusExpr, Memory>
+    requires inside { HasRow scope.now b }
+    requires named { HasOwnNames scope.now }
+    ensures { let s = scope.now in IfOk result (λ e. expr_tree e
+        ≡ placed_expr s.names.now (rows.runs (diagram_in s) s.system b)) }
 {
-    let active = LusExpr::Name(names.places.place(b"active"));
-    let hit = hit_test(alloc, time_at(r, b), now_leaf(names)?)?;
-    let hit = test_value(alloc, names, hit)?;
+    let active = LusExpr::Name(scope.names.places.place(b"active"));
+    let hit = hit_test(alloc, time_at(scope.diagram, b), now_leaf(scope.names)?)?;
+    let hit = test_value(alloc, scope.names, hit)?;
     Ok(also(alloc, active, hit)?)
 }
 
 /// The test that the system's enable is low, at an Outport that is reset then; `None` never holds.
 pub(crate) fn disabled(
     alloc: Global,
-    r: &Resolved,
-    names: &RowNames<'_, '_, '_, '_>,
-    system: Option<u32>,
+    scope: &SystemScope,
     b: u32,
 ) -> Result<Option<LusExpr>, Memory>
-    requires inside { b < length r.now.tree.table.rows }
-    requires named { AreNamesOf names.now r.now.tree.table.rows system None }
-    ensures { let d = diagram_of r.now in IfOk result (λ value. option_map expr_tree value
-        ≡ option_map (placed_expr names.now) (if is_reset_outport (row_at d.rows b).kind
-        then rows.test_in d system
-        (code.disabled_by (system_control d.rows system) (system_names.control_leaves d.rows system))
+    requires inside { HasRow scope.now b }
+    requires named { HasOwnNames scope.now }
+    ensures { let s = scope.now in let d = diagram_in s in
+        IfOk result (λ value. option_map expr_tree value
+        ≡ option_map (placed_expr s.names.now) (if is_reset_outport (row_at d.rows b).kind
+        then rows.test_in d s.system
+        (code.disabled_by (system_control d.rows s.system)
+        (system_names.control_leaves d.rows s.system))
         else None)) }
 {
-    if !r.row(b).kind.is_reset_outport() {
+    if !scope.diagram.row(b).kind.is_reset_outport() {
         return Ok(None);
     }
-    let test = disabled_by(alloc, names.control, control_leaves(names)?)?;
-    Ok(test_value(alloc, names, test)?)
+    let test = disabled_by(alloc, scope.names.control, control_leaves(scope.names)?)?;
+    Ok(test_value(alloc, scope.names, test)?)
 }

@@ -1,16 +1,17 @@
 // The value of a row.
-ghost use Rattle.std.specs.Prelude.{◌≡◌, ◌<◌, ◌++◌, None, OnOk, IfOk, length, map};
+ghost use Rattle.std.specs.Prelude.{◌≡◌, ◌<◌, ◌++◌, OnOk, IfOk, length, map};
 ghost use Rattle.diagram_meaning.specs.ResolvedTree.{diagram_of};
 ghost use Rattle.c_syntax.specs.Plain as plain;
 ghost use Rattle.lustre_syntax.specs.Plain.{expr_tree, equation_tree};
 ghost use Rattle.lustre_system.specs.RowEquations as rows;
-ghost use Rattle.lustre_expressions.specs.Scopes.{AreNamesOf};
 ghost use Rattle.lustre_row_equations.specs.Placed.{placed_expr, placed_equations};
 ghost use Rattle.lustre_row_equations.specs.RowParts.{computed_value, computed_calls};
+ghost use Rattle.lustre_row_equations.specs.SystemScopes.{HasOwnNames, HasRow, diagram_in};
 
 use crate::building::{arrow, choice, set, signed_number, two};
 use crate::leaves::leaves_of;
 use crate::reading::{op_at, types_of};
+use crate::scopes::SystemScope;
 use crate::starts::start_of;
 use crate::tests_of_rows::{disabled, runs};
 use base_core::Memory;
@@ -38,95 +39,88 @@ pub fn row_code(alloc: Global, r: &Resolved, system: Option<u32>, b: u32) -> Res
 // What is computed where the row runs, and else its value at the tick before.
 fn value_or_kept(
     alloc: Global,
-    r: &Resolved,
-    names: &RowNames<'_, '_, '_, '_>,
-    system: Option<u32>,
+    scope: &SystemScope,
     b: u32,
     computed: LusExpr,
 ) -> Result<LusExpr, Memory>
-    requires inside { b < length r.now.tree.table.rows }
-    requires named { AreNamesOf names.now r.now.tree.table.rows system None }
-    requires computed { expr_tree computed
-        ≡ placed_expr names.now (computed_value (diagram_of r.now) system b) }
-    ensures { IfOk result (λ e. expr_tree e
-        ≡ placed_expr names.now (rows.value_or_kept (diagram_of r.now) system b)) }
+    requires inside { HasRow scope.now b }
+    requires named { HasOwnNames scope.now }
+    requires computed { let s = scope.now in expr_tree computed
+        ≡ placed_expr s.names.now (computed_value (diagram_in s) s.system b) }
+    ensures { let s = scope.now in IfOk result (λ e. expr_tree e
+        ≡ placed_expr s.names.now (rows.value_or_kept (diagram_in s) s.system b)) }
 {
     let name = value_name(alloc, b)?;
-    let before = LusExpr::Pre(names.places.place(name.bytes()));
-    let start = signed_number(alloc, start_of(r, b))?;
+    let before = LusExpr::Pre(scope.names.places.place(name.bytes()));
+    let start = signed_number(alloc, start_of(scope.diagram, b))?;
     let kept = arrow(alloc, start, before)?;
-    choice(alloc, runs(alloc, r, names, system, b)?, computed, kept)
+    choice(alloc, runs(alloc, scope, b)?, computed, kept)
 }
 
 // The value of row `b`, where this is what it computes.
 fn row_value(
     alloc: Global,
-    r: &Resolved,
-    names: &RowNames<'_, '_, '_, '_>,
-    system: Option<u32>,
+    scope: &SystemScope,
     b: u32,
     computed: LusExpr,
 ) -> Result<LusExpr, Memory>
-    requires inside { b < length r.now.tree.table.rows }
-    requires named { AreNamesOf names.now r.now.tree.table.rows system None }
-    requires computed { expr_tree computed
-        ≡ placed_expr names.now (computed_value (diagram_of r.now) system b) }
-    ensures { IfOk result (λ e. expr_tree e
-        ≡ placed_expr names.now (rows.row_value (diagram_of r.now) system b)) }
+    requires inside { HasRow scope.now b }
+    requires named { HasOwnNames scope.now }
+    requires computed { let s = scope.now in expr_tree computed
+        ≡ placed_expr s.names.now (computed_value (diagram_in s) s.system b) }
+    ensures { let s = scope.now in IfOk result (λ e. expr_tree e
+        ≡ placed_expr s.names.now (rows.row_value (diagram_in s) s.system b)) }
 {
-    let value = value_or_kept(alloc, r, names, system, b, computed)?;
-    let Some(disabled) = disabled(alloc, r, names, system, b)? else {
+    let value = value_or_kept(alloc, scope, b, computed)?;
+    let Some(disabled) = disabled(alloc, scope, b)? else {
         return Ok(value);
     };
-    let around = LusExpr::Name(names.places.place(b"on"));
+    let around = LusExpr::Name(scope.names.places.place(b"on"));
     let test = two(alloc, LusOp::And, around, disabled)?;
-    choice(alloc, test, signed_number(alloc, start_of(r, b))?, value)
+    choice(
+        alloc,
+        test,
+        signed_number(alloc, start_of(scope.diagram, b))?,
+        value,
+    )
 }
 
 /// Adds the equations of the value of row `b`: its calls of functions, and the value.
 pub(crate) fn value_equations(
     alloc: Global,
-    r: &Resolved,
-    names: &RowNames<'_, '_, '_, '_>,
-    system: Option<u32>,
+    scope: &SystemScope,
     b: u32,
     equations: &mut Vec<LusEq>,
 ) -> Result<(), Memory>
-    requires inside { b < length r.now.tree.table.rows }
-    requires named { AreNamesOf names.now r.now.tree.table.rows system None }
-    ensures { OnOk result (map equation_tree equations.new.items
+    requires inside { HasRow scope.now b }
+    requires named { HasOwnNames scope.now }
+    ensures { let s = scope.now in OnOk result (map equation_tree equations.new.items
         ≡ map equation_tree equations.old.items
-        ++ placed_equations names.now (rows.value_equations (diagram_of r.now) system b)) }
+        ++ placed_equations s.names.now (rows.value_equations (diagram_in s) s.system b)) }
 {
-    let (computed, mut calls) = computed(alloc, r, names, system, b)?;
+    let (computed, mut calls) = computed(alloc, scope, b)?;
     equations.append(&mut calls)?;
-    let value = row_value(alloc, r, names, system, b, computed)?;
+    let value = row_value(alloc, scope, b, computed)?;
     let name = value_name(alloc, b)?;
-    equations.push(set(names.places.place(name.bytes()), value))?;
+    equations.push(set(scope.names.places.place(name.bytes()), value))?;
     Ok(())
 }
 
 // What row `b` computes, and the calls of functions for it.
-fn computed(
-    alloc: Global,
-    r: &Resolved,
-    names: &RowNames<'_, '_, '_, '_>,
-    system: Option<u32>,
-    b: u32,
-) -> Result<(LusExpr, Vec<LusEq>), Memory>
-    requires inside { b < length r.now.tree.table.rows }
-    requires named { AreNamesOf names.now r.now.tree.table.rows system None }
-    ensures value { IfOk result (λ x. expr_tree x.0
-        ≡ placed_expr names.now (computed_value (diagram_of r.now) system b)) }
-    ensures calls { IfOk result (λ x. map equation_tree x.1.items
-        ≡ placed_equations names.now (computed_calls (diagram_of r.now) system b)) }
+fn computed(alloc: Global, scope: &SystemScope, b: u32) -> Result<(LusExpr, Vec<LusEq>), Memory>
+    requires inside { HasRow scope.now b }
+    requires named { HasOwnNames scope.now }
+    ensures value { let s = scope.now in IfOk result (λ x. expr_tree x.0
+        ≡ placed_expr s.names.now (computed_value (diagram_in s) s.system b)) }
+    ensures calls { let s = scope.now in IfOk result (λ x. map equation_tree x.1.items
+        ≡ placed_equations s.names.now (computed_calls (diagram_in s) s.system b)) }
 {
-    let code = row_code(alloc, r, system, b)?;
+    let code = row_code(alloc, scope.diagram, scope.system, b)?;
     let of_row = RowNames {
-        places: names.places,
-        callees: names.callees,
-        control: names.control,
-        ports: names.ports,
+        places: scope.names.places,
+        callees: scope.names.callees,
+        control: scope.names.control,
+        ports: scope.names.ports,
         row: Some(b),
     };
     let mut calls = Calls {

@@ -1,5 +1,5 @@
 // The equations of the node of a system.
-ghost use Rattle.std.specs.Prelude.{◌≡◌, ◌<◌, ◌++◌, None, IfOk, OnOk, length, map};
+ghost use Rattle.std.specs.Prelude.{◌≡◌, ◌++◌, None, IfOk, OnOk, map};
 ghost use Rattle.std.specs.List.{flat_map};
 ghost use Rattle.diagram_meaning.specs.ResolvedTree.{diagram_of};
 ghost use Rattle.diagram_meaning.specs.Rows as meaning;
@@ -8,6 +8,7 @@ ghost use Rattle.lustre_system.specs.RowEquations as rows;
 ghost use Rattle.lustre_expressions.specs.Found.{place_in};
 ghost use Rattle.lustre_expressions.specs.Scopes.{AreNamesOf};
 ghost use Rattle.lustre_row_equations.specs.Placed.{placed_equations};
+ghost use Rattle.lustre_row_equations.specs.SystemScopes.{HasOwnNames, HasRow, diagram_in};
 ghost use Rattle.lustre_system_nodes.specs.Named.{IsNamed, placed_system};
 ghost use Rattle.lustre_system_nodes.specs.OwnRows.{own_row};
 ghost use Rattle.lustre_system_nodes.specs.Parts.{ArePartsOf};
@@ -21,29 +22,27 @@ use crate::reading::rows_of;
 use base_core::Memory;
 use diagram_meaning::Resolved;
 use lustre_expressions::{Callees, RowNames, places_of_names};
-use lustre_row_equations::own_equations;
+use lustre_row_equations::{SystemScope, own_equations};
 use lustre_syntax::LusEq;
 use std::alloc::Global;
 
 // Adds the equations of a row.
 fn push_row(
     alloc: Global,
-    r: &Resolved,
-    names: &RowNames<'_, '_, '_, '_>,
-    system: Option<u32>,
+    scope: &SystemScope,
     row: &OwnRow,
     equations: &mut Vec<LusEq>,
 ) -> Result<(), Memory>
-    requires inside { row.now.row < length r.now.tree.table.rows }
-    requires row { row.now ≡ own_row r.now.tree.table.rows row.now.row }
-    requires named { AreNamesOf names.now r.now.tree.table.rows system None }
-    ensures { OnOk result (map equation_tree equations.new.items
+    requires inside { HasRow scope.now row.now.row }
+    requires row { row.now ≡ own_row scope.now.diagram.now.tree.table.rows row.now.row }
+    requires named { HasOwnNames scope.now }
+    ensures { let s = scope.now in OnOk result (map equation_tree equations.new.items
         ≡ map equation_tree equations.old.items
-        ++ placed_equations names.now (rows.row_equations (diagram_of r.now) system row.now.row)) }
+        ++ placed_equations s.names.now (rows.row_equations (diagram_in s) s.system row.now.row)) }
 {
-    own_equations(alloc, r, names, system, row.row, equations)?;
-    if is_subsystem(rows_of(r), row.row) {
-        push_child(alloc, r, names, row, equations)?;
+    own_equations(alloc, scope, row.row, equations)?;
+    if is_subsystem(rows_of(scope.diagram), row.row) {
+        push_child(alloc, scope.diagram, scope.names, row, equations)?;
     }
     Ok(())
 }
@@ -63,8 +62,13 @@ fn push_rows(
         (flat_map (rows.row_equations d parts.now.row) (meaning.rows_of d.rows parts.now.row))) }
 {
     let own = parts.own.as_slice();
+    let scope = SystemScope {
+        diagram: r,
+        system: parts.row,
+        names,
+    };
     for row in own {
-        push_row(alloc, r, names, parts.row, row, equations)?;
+        push_row(alloc, &scope, row, equations)?;
     }
     Ok(())
 }

@@ -9,5 +9,5 @@ use Rattle.lustre_row_equations.proofs.memories.sample_equations.Given as goal
 abbrev pub invariant-loop-k : goal.invariant-loop-k
 invariant-loop-k l =
     map equation_tree l.fn.equations.items
-    ++ placed_equations l.names (sample_equations (diagram_of l.r) None l.b (samples (diagram_of l.r) None l.b))
-    ≡ map equation_tree l.equations.items ++ placed_equations l.names (from_sample (diagram_of l.r) l.b l.k)
+    ++ placed_equations l.scope.names.now (sample_equations (diagram_of l.scope.diagram.now) None l.b (samples (diagram_of l.scope.diagram.now) None l.b))
+    ≡ map equation_tree l.equations.items ++ placed_equations l.scope.names.now (from_sample (diagram_of l.scope.diagram.now) l.b l.k)

@@ -12,9 +12,9 @@ use Rattle.lustre_row_equations.proofs.tests_of_rows.disabled.Goals as goal
 
 pub returns : goal.returns
 returns c =
-    let d = diagram_of c.args.r.now in
-    let s = c.args.system in
-    let names = c.args.names.now in
+    let d = diagram_of c.args.scope.now.diagram.now in
+    let s = c.args.scope.now.system in
+    let names = c.args.scope.now.names.now in
     let named = c.requires.named in
     let test = test_in d s (disabled_by (system_control d.rows s) (control_leaves d.rows s)) in
     let reset : is_reset_outport (row_at d.rows c.args.b).kind ≡ true =

@@ -12,17 +12,17 @@ use Rattle.lustre_row_equations.proofs.values.computed.Goals as goal
 
 pub returns-clause-value : goal.returns-clause-value
 returns-clause-value c =
-    let names = c.args.names.now in
-    let rows = c.args.r.now.tree.table.rows in
-    let s = c.args.system in
+    let names = c.args.scope.now.names.now in
+    let rows = c.args.scope.now.diagram.now.tree.table.rows in
+    let s = c.args.scope.now.system in
     c.in_ok-value.ensures.value ∙ value_is names rows s c.requires.named c.args.b (plain.expr_tree c.in_ok-code.code)
     ∙ ap (λ e. placed_expr names (value_of (leaf_name rows s) function_name (part_name c.args.b) e)) c.in_ok-code.ensures
 
 pub returns-clause-calls : goal.returns-clause-calls
 returns-clause-calls c =
-    let names = c.args.names.now in
-    let rows = c.args.r.now.tree.table.rows in
-    let s = c.args.system in
+    let names = c.args.scope.now.names.now in
+    let rows = c.args.scope.now.diagram.now.tree.table.rows in
+    let s = c.args.scope.now.system in
     let code = plain.expr_tree c.in_ok-code.code in
     c.in_ok-value.ensures.calls
     ∙ ap (λ l. map equation_tree l ++ placed_calls (row_naming (record names { row = Some c.args.b })) 0 code)

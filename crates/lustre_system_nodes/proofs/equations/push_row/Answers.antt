@@ -13,10 +13,10 @@ use Rattle.lustre_system_nodes.proofs.equations.push_row.Goals as goal
 
 pub returns-in_ok-push_child : goal.returns-in_ok-push_child
 returns-in_ok-push_child c =
-    let d = diagram_of c.args.r.now in
-    let s = c.args.system in
+    let d = diagram_of c.args.scope.now.diagram.now in
+    let s = c.args.scope.now.system in
     let b = c.args.row.now.row in
-    with-child (placed_equation c.args.names.now) (is_subsystem (row_at d.rows b).kind)
+    with-child (placed_equation c.args.scope.now.names.now) (is_subsystem (row_at d.rows b).kind)
     (only_if (is_delay (op_at d b)) (memory_equations d s b) ++ only_if (has_value (row_at d.rows b).kind) (value_equations d s b))
     (child_equations d s b) (map equation_tree c.args.equations.now.items) (map equation_tree c.own_equations.new.equations.items)
     (map equation_tree c.push_child.new.equations.items)
@@ -26,10 +26,10 @@ returns-in_ok-push_child c =
 
 pub returns-else-is_subsystem : goal.returns-else-is_subsystem
 returns-else-is_subsystem c =
-    let d = diagram_of c.args.r.now in
-    let s = c.args.system in
+    let d = diagram_of c.args.scope.now.diagram.now in
+    let s = c.args.scope.now.system in
     let b = c.args.row.now.row in
-    without-child (placed_equation c.args.names.now) (is_subsystem (row_at d.rows b).kind)
+    without-child (placed_equation c.args.scope.now.names.now) (is_subsystem (row_at d.rows b).kind)
     (only_if (is_delay (op_at d b)) (memory_equations d s b) ++ only_if (has_value (row_at d.rows b).kind) (value_equations d s b))
     (child_equations d s b) (map equation_tree c.args.equations.now.items) (map equation_tree c.own_equations.new.equations.items)
     (ap (λ (rows : List Row). is_subsystem (row_at rows b).kind) (sym c.rows_of.ensures) ∙ sym c.is_subsystem.ensures
