@@ -1,22 +1,21 @@
 -- What is read of the blocks of an accepted text.
-use Rattle.std.proofs.Common.{◌≡◌, refl, sym, ◌∙◌, ap, ℕ, suc, List, [], ◌∷◌, map, None, Some}
-use Rattle.std.specs.Prelude.{Result, Ok, Err}
+use Rattle.std.proofs.Common.{◌≡◌, refl, sym, ◌∙◌, ap, [], ◌∷◌, map, None, Some}
+use Rattle.std.specs.Prelude.{filter_map, Result, Ok, Err}
 use Rattle.std.specs.Result.{result_err}
 use Rattle.base_refusals.specs.Refusals.{PlainRefusal}
 use Rattle.mdl_tree.specs.Walks.{SectionTree}
 use Rattle.mdl_params.specs.Defaults.{DefaultTexts, IsDefaults}
-use Rattle.mdl_systems.specs.declared.placed.PlacedBlock.{PlacedBlock}
 use Rattle.mdl_systems.specs.ByDefaults.{ReadingIsByDefaults}
 use Rattle.mdl_systems.specs.Models as found
-use Rattle.mdl_systems.specs.Nesting.{OutlinesAreNumbered}
-use Rattle.mdl_systems.specs.Reading.{AreBlocksOf}
+use Rattle.mdl_systems.specs.Outlines.{outlines_of}
 use Rattle.mdl_systems.specs.Refusals.{model_refusal}
 use Rattle.mdl_rows.specs.Models.{Model, model_with}
-use Rattle.mdl_rows.specs.Held.{numbered_from}
 use Rattle.mdl_rows.specs.Refusals.{defaults_of, found_refusal, refusal_by, rows_refusal}
-use Rattle.mdl_table.proofs.lemmas.ReadBlocks.{model-by, refusal-by, same-model}
-use Rattle.mdl_table.proofs.lemmas.RowBlocks.{all-none}
-use Rattle.emit_notes.specs.Labels.{label_of, model_labels, placed_label}
+use Rattle.mdl_table.proofs.lemmas.ReadBlocks.{model-by, refusal-by}
+use Rattle.mdl_table.proofs.lemmas.RowBlocks.{accepted, all-none}
+use Rattle.emit_notes.specs.Labels.{label_of, model_labels}
+use Rattle.emit_notes.specs.Sections.{label_said, section_of}
+use Rattle.emit_notes.proofs.SaidLemmas.{labels-said}
 
 -- ---- The model
 
@@ -43,13 +42,7 @@ module _ (by_defaults : ReadingIsByDefaults) (defaults : DefaultTexts) (model : 
 
 -- ---- Its blocks
 
-labels-numbered : (n : ℕ) (bs : List PlacedBlock) → map placed_label bs ≡ map label_of (numbered_from n bs)
-labels-numbered n [] = refl
-labels-numbered n (b ∷ bs) = ap (λ rest. placed_label b ∷ rest) (labels-numbered (suc n) bs)
-
--- the labels of the blocks that are read are those of the model's blocks
-pub labels-read : OutlinesAreNumbered → (defaults : DefaultTexts) (section : SectionTree) (bs : List PlacedBlock) →
-    AreBlocksOf defaults section bs →
-    map placed_label bs ≡ map label_of (model_with defaults section).blocks
-labels-read numbered defaults section bs zip =
-    labels-numbered 0 bs ∙ ap (λ (m : Model). map label_of m.blocks) (same-model numbered defaults section bs zip)
+-- the labels that the sections of its blocks say are its labels
+pub labels-accepted : (defaults : DefaultTexts) (system : SectionTree) → model_refusal defaults system ≡ None →
+    filter_map (label_said defaults) (map section_of (outlines_of system)) ≡ map label_of (model_with defaults system).blocks
+labels-accepted defaults system e = labels-said defaults (outlines_of system) (accepted defaults system e).each

@@ -3,10 +3,8 @@ use Rattle.std.specs.Prelude.{◌≡◌, ℕ, List, map, Option, Ok}
 use Rattle.mdl_tree.specs.Spelling.{Items}
 use Rattle.mdl_params.specs.declared.BlockType.{BlockType}
 use Rattle.mdl_params.specs.declared.BlockType.TheVariants.{Inport, Outport, SubSystem, Constant, Ground, Terminator, Gain, Sum, Product, UnitDelay, Delay, ZeroOrderHold, Switch, RelationalOperator, Logic, DataTypeConversion, RateTransition, EnablePort, TriggerPort}
-use Rattle.mdl_blocks.specs.Held.{block_text}
 use Rattle.mdl_blocks.specs.Blocks.{BlockText, KindText, inport, outport, subsystem, constant, ground, terminator, gain, sum, product, unit_delay, delay, zero_order_hold, switch, relational, logic, convert, rate_transition, enable_port, trigger_port}
 use Rattle.mdl_systems.specs.Models as found
-use Rattle.mdl_systems.specs.declared.placed.PlacedBlock.{PlacedBlock}
 use Rattle.mdl_rows.specs.Models.{Block, model_with}
 use Rattle.mdl_rows.specs.Interiors.{inport_number, outport_number}
 use Rattle.mdl_rows.specs.Refusals.{defaults_of}
@@ -49,10 +47,6 @@ label_with owner b = record {
 
 abbrev pub label_of : Block → Label
 label_of b = label_with b.owner b.text
-
--- the label of a block as it was read
-abbrev pub placed_label : PlacedBlock → Label
-placed_label b = label_with b.owner (block_text b.block)
 
 -- ---- Of a model
 

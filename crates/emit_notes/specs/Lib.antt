@@ -1,4 +1,5 @@
 pub mod Labels
+pub mod Sections
 pub mod NameUses
 pub mod BlockNotes
 pub mod Outports

@@ -13,6 +13,7 @@ mod outports;
 mod ports;
 mod procedures;
 mod reading;
+mod sections;
 mod systems;
 
 pub use labels::{Label, Labels};

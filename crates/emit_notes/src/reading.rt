@@ -1,97 +1,82 @@
-ghost use Rattle.std.specs.Prelude.{◌≡◌, IfOk, None, Ok, map};
+ghost use Rattle.std.specs.Prelude.{◌≡◌, IfOk, None, Ok, filter_map, map};
 ghost use Rattle.mdl_tree.specs.Values.{section_tree};
 ghost use Rattle.mdl_params.specs.Defaults.{IsDefaults};
-ghost use Rattle.mdl_blocks.specs.Held.{block_text, kind_text};
 ghost use Rattle.mdl_systems.specs.Models as models;
 ghost use Rattle.mdl_systems.specs.Reading.{model_seen};
 ghost use Rattle.mdl_systems.specs.Refusals.{model_refusal};
-ghost use Rattle.mdl_rows.specs.Interiors as port;
 ghost use Rattle.mdl_rows.specs.Models.{model_with};
-ghost use Rattle.mdl_rows.specs.Refusals.{defaults_of, found_refusal, tree_refusal};
+ghost use Rattle.mdl_rows.specs.Refusals.{found_refusal, tree_refusal};
 ghost use Rattle.diagram_verdict.specs.Files.{OfTexts};
-ghost use Rattle.emit_notes.specs.Labels.{AreLabelsOf, label_of, model_labels, placed_label, type_of_kind};
+ghost use Rattle.emit_notes.specs.Labels.{AreLabelsOf, label_of, model_labels};
+ghost use Rattle.emit_notes.specs.Sections.{all_seen, label_said, port_said, section_seen};
 
 use crate::labels::{Label, Labels};
-use base_core::{Memory, Text};
+use crate::sections::{PlacedSection, sections_of};
+use base_core::{Memory, ParamName, Text};
 use diagram_meaning::BuildFault;
-use mdl_blocks::BlockKind;
+use mdl_blocks::number_up_to;
 use mdl_params::{BlockType, Defaults};
-use mdl_systems::{
-    ModelSections, PlacedBlock, ReadModel, find_model, outlines_are_numbered, read_model,
-    reading_is_by_defaults,
-};
+use mdl_systems::{ModelSections, find_model, reading_is_by_defaults};
 use mdl_tree::Section;
 use std::alloc::Global;
 
-/// The BlockType of a block.
-fn type_of(kind: &BlockKind) -> BlockType
-    ensures { result ≡ type_of_kind (kind_text kind.now) }
+/// The port that a block with this section says, up to a greatest one.
+fn port_of(defaults: &Defaults, section: &Section, type_name: &[u8], most: u32) -> Option<u32>
+    ensures { result ≡ port_said defaults.now (section_tree section.now) type_name.now most }
 {
-    match kind {
-        BlockKind::Inport { .. } => BlockType::Inport,
-        BlockKind::Outport { .. } => BlockType::Outport,
-        BlockKind::SubSystem { .. } => BlockType::SubSystem,
-        BlockKind::Constant(_) => BlockType::Constant,
-        BlockKind::Ground => BlockType::Ground,
-        BlockKind::Terminator => BlockType::Terminator,
-        BlockKind::Gain { .. } => BlockType::Gain,
-        BlockKind::Sum { .. } => BlockType::Sum,
-        BlockKind::Product { .. } => BlockType::Product,
-        BlockKind::UnitDelay { .. } => BlockType::UnitDelay,
-        BlockKind::Delay { .. } => BlockType::Delay,
-        BlockKind::ZeroOrderHold => BlockType::ZeroOrderHold,
-        BlockKind::Switch { .. } => BlockType::Switch,
-        BlockKind::Relational(_) => BlockType::RelationalOperator,
-        BlockKind::Logic { .. } => BlockType::Logic,
-        BlockKind::Convert(_) => BlockType::DataTypeConversion,
-        BlockKind::RateTransition { .. } => BlockType::RateTransition,
-        BlockKind::EnablePort { .. } => BlockType::EnablePort,
-        BlockKind::TriggerPort(_) => BlockType::TriggerPort,
-    }
+    number_up_to(most, defaults.found(section, type_name, ParamName::Port)?)
 }
 
-/// The port of an Inport.
-fn inport_of(kind: &BlockKind) -> Option<u32>
-    ensures { result ≡ port.inport_number (kind_text kind.now) }
+/// The label of a block, if its section says its type and its name.
+fn label_in(
+    alloc: Global,
+    defaults: &Defaults,
+    placed: &PlacedSection,
+) -> Result<Option<Label>, Memory>
+    ensures { IfOk result (λ label. label ≡ label_said defaults.now (section_seen placed.now)) }
 {
-    match kind {
-        BlockKind::Inport { port } => Some(*port),
+    let section = placed.section;
+    let Some(type_text) = section.param(b"BlockType") else {
+        return Ok(None);
+    };
+    let type_name = type_text.bytes();
+    let Some(block_type) = BlockType::of(type_name) else {
+        return Ok(None);
+    };
+    let Some(name) = defaults.found(section, type_name, ParamName::Name) else {
+        return Ok(None);
+    };
+    let inport = match block_type {
+        BlockType::Inport => port_of(defaults, section, type_name, placed.peers.inports),
         _ => None,
-    }
-}
-
-/// The port of an Outport.
-fn outport_of(kind: &BlockKind) -> Option<u32>
-    ensures { result ≡ port.outport_number (kind_text kind.now) }
-{
-    match kind {
-        BlockKind::Outport { port, .. } => Some(*port),
+    };
+    let outport = match block_type {
+        BlockType::Outport => port_of(defaults, section, type_name, placed.peers.outports),
         _ => None,
-    }
-}
-
-/// The label of a block.
-fn label_of(alloc: Global, placed: &PlacedBlock) -> Result<Label, Memory>
-    ensures { IfOk result (λ label. label ≡ placed_label placed.now) }
-{
-    let kind = &placed.block.body.kind;
-    Ok(Label {
-        block_type: type_of(kind),
-        inport: inport_of(kind),
-        outport: outport_of(kind),
-        name: Text::copy_of(alloc, placed.block.name)?,
-        line: placed.block.line,
+    };
+    Ok(Some(Label {
+        block_type,
+        inport,
+        outport,
+        name: Text::copy_of(alloc, name)?,
+        line: section.line,
         owner: placed.owner,
-    })
+    }))
 }
 
-/// The labels of blocks.
-fn labels_from(alloc: Global, blocks: &[PlacedBlock]) -> Result<Vec<Label>, Memory>
-    ensures { IfOk result (λ v. v.items ≡ map placed_label blocks.now) }
+/// The labels of blocks whose sections say their types and names.
+fn labels_from(
+    alloc: Global,
+    defaults: &Defaults,
+    sections: &[PlacedSection],
+) -> Result<Vec<Label>, Memory>
+    ensures { IfOk result (λ v. v.items ≡ filter_map (label_said defaults.now) (all_seen sections.now)) }
 {
-    let mut labels = Vec::with_capacity(alloc, blocks.len())?;
-    for placed in blocks {
-        labels.push(label_of(alloc, placed)?)?;
+    let mut labels = Vec::with_capacity(alloc, sections.len())?;
+    for placed in sections {
+        if let Some(label) = label_in(alloc, defaults, placed)? {
+            labels.push(label)?;
+        }
     }
     Ok(labels)
 }
@@ -102,12 +87,8 @@ fn labels_by(alloc: Global, defaults: &Defaults, system: &Section) -> Result<Vec
     ensures { IfOk result (λ v. v.items
         ≡ map label_of (model_with defaults.now (section_tree system.now)).blocks) }
 {
-    outlines_are_numbered();
-    match read_model(alloc, defaults, system) {
-        Ok(ReadModel { blocks, .. }) => labels_from(alloc, blocks.as_slice()),
-        Err(BuildFault::Memory) => Err(Memory),
-        Err(BuildFault::Refused(_)) => unreachable!(),
-    }
+    let sections = sections_of(alloc, system)?;
+    labels_from(alloc, defaults, sections.as_slice())
 }
 
 /// The labels of a model that isn't refused, by defaults that give what its own do.
