@@ -1,5 +1,5 @@
 -- What is read of the blocks of an accepted text.
-use Rattle.std.proofs.Common.{◌≡◌, refl, sym, ◌∙◌, ap, [], ◌∷◌, map, None, Some}
+use Rattle.std.proofs.Common.{◌≡◌, sym, ◌∙◌, ap, [], ◌∷◌, map, None, Some}
 use Rattle.std.specs.Prelude.{filter_map, Result, Ok, Err}
 use Rattle.std.specs.Result.{result_err}
 use Rattle.base_refusals.specs.Refusals.{PlainRefusal}

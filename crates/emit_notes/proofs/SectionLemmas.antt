@@ -1,5 +1,5 @@
 -- The sections of the blocks of a System, one by one.
-use Rattle.std.proofs.Common.{◌≡◌, refl, sym, ◌∙◌, ap, ap₂, ℕ, suc, ◌+◌, true, false, List, ◌++◌, length, map, Option, Some, append_assoc, length-append, arith, codes}
+use Rattle.std.proofs.Common.{◌≡◌, sym, ◌∙◌, ap, ap₂, ℕ, suc, ◌+◌, true, false, List, ◌++◌, length, map, Option, Some, append_assoc, length-append, arith, codes}
 use Rattle.std.specs.Prelude.{bytes_eq}
 use Rattle.std.proofs.lemmas.List.{length-map, map-append}
 use Rattle.mdl_tree.specs.Spelling.{Items}
@@ -10,7 +10,7 @@ use Rattle.mdl_blocks.specs.Peers.{peers_in}
 use Rattle.mdl_systems.specs.Outlines.{Outline, outlines_in, outlines_inside}
 use Rattle.mdl_systems.specs.Held.{taken, blocks_held}
 use Rattle.emit_notes.specs.declared.sections.PlacedSection.{PlacedSection}
-use Rattle.emit_notes.specs.Sections.{BlockSection, section_of, section_seen, all_seen, with_blocks}
+use Rattle.emit_notes.specs.Sections.{section_of, section_seen, all_seen, with_blocks}
 
 -- a Block in front of the items
 outlines-block : (next : ℕ) (owner : Option ℕ) (depth : ℕ) (peers : Peers) (section : SectionTree) (rest : Items) →

@@ -1,4 +1,4 @@
-use Rattle.std.proofs.Common.{◌≡◌, ◌∙◌, sym, ap, None, Some, [], ◌∷◌, ◌++◌, append-nil}
+use Rattle.std.proofs.Common.{◌∙◌, sym, ap, None, Some, [], ◌∷◌, ◌++◌, append-nil}
 use Rattle.emit_notes.proofs.SaidLemmas.{more-said}
 use Rattle.emit_notes.proofs.reading.labels_from.Goals as goal
 use Rattle.emit_notes.proofs.reading.labels_from.Goals.{in-Some+in_ok-push, in_default}

@@ -1,4 +1,4 @@
-use Rattle.std.proofs.Common.{◌≡◌, ℕ, Some, ◌+◌, ◌++◌, ◌∙◌, sym, ap, length, drop, codes}
+use Rattle.std.proofs.Common.{Some, ◌+◌, ◌∙◌, sym, ap, length, drop, codes}
 use Rattle.std.specs.Prelude.{bytes_eq}
 use Rattle.std.proofs.lemmas.Result.{on_ok_weaker}
 use Rattle.mdl_tree.specs.Values.{items_of, with_item, section_tree}
