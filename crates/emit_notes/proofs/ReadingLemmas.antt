@@ -15,6 +15,7 @@ use Rattle.mdl_table.proofs.lemmas.ReadBlocks.{model-by, refusal-by}
 use Rattle.mdl_table.proofs.lemmas.RowBlocks.{accepted, all-none}
 use Rattle.emit_notes.specs.Labels.{label_of, model_labels}
 use Rattle.emit_notes.specs.Sections.{label_said, section_of}
+use Rattle.emit_notes.proofs.SectionLemmas.{model-fits}
 use Rattle.emit_notes.proofs.SaidLemmas.{labels-said}
 
 -- ---- The model
@@ -45,4 +46,4 @@ module _ (by_defaults : ReadingIsByDefaults) (defaults : DefaultTexts) (model : 
 -- the labels that the sections of its blocks say are its labels
 pub labels-accepted : (defaults : DefaultTexts) (system : SectionTree) → model_refusal defaults system ≡ None →
     filter_map (label_said defaults) (map section_of (outlines_of system)) ≡ map label_of (model_with defaults system).blocks
-labels-accepted defaults system e = labels-said defaults (outlines_of system) (accepted defaults system e).each
+labels-accepted defaults system e = labels-said defaults (outlines_of system) (model-fits system) (accepted defaults system e).each

@@ -1,5 +1,6 @@
 -- The label that a block's section says is that of what is read of the block.
-use Rattle.std.proofs.Common.{◌≡◌, refl, sym, ◌∙◌, ap, ap₂, subst, ℕ, ◌+◌, ◌<◌, Bool, true, false, ◌&&◌, cond, List, [], ◌∷◌, ◌++◌, length, map, take, slice_index_or, Option, None, Some, codes}
+use Rattle.std.proofs.Common.{◌≡◌, refl, sym, ◌∙◌, ap, ap₂, subst, ℕ, ◌+◌, ◌<◌, Bool, true, false, ◌&&◌, cond, List, [], ◌∷◌, ◌++◌, length, map, take, slice_index_or, Option, None, Some, codes, nat_le, leb-true, ◌≤◌, arith}
+use Rattle.std.proofs.lemmas.Bool.{le-leb}
 use Rattle.std.specs.Prelude.{filter_map, option_map, option_and_then, option_to_list, is_none, ok_or, Result, Ok, Err}
 use Rattle.std.specs.List.{AllByRecursion, cons_option}
 use Rattle.std.specs.Result.{result_ok}
@@ -17,7 +18,7 @@ use Rattle.mdl_blocks.specs.declared.fault.Fault.{Fault}
 use Rattle.mdl_blocks.specs.declared.fault.Fault.TheVariants.{Unsupported, Parameter}
 use Rattle.mdl_blocks.specs.declared.peers.Peers.{Peers}
 use Rattle.mdl_blocks.specs.Meanings.{type_in, whole_type_in, any_time_in, time_in, constant_in}
-use Rattle.mdl_blocks.specs.Words.{number_in, number_up_to, samples_in, writes_minus_one, factor_in, initial_output_in, edges, resets, inheritances, comparisons, logics, criteria}
+use Rattle.mdl_blocks.specs.Words.{number_in, number_up_to, whole_number, samples_in, writes_minus_one, factor_in, initial_output_in, edges, resets, inheritances, comparisons, logics, criteria}
 use Rattle.mdl_blocks.specs.Signs.{sum_signs, product_count, logic_count}
 use Rattle.mdl_blocks.specs.Blocks.{BodyText, BlockText, Texts, texts_by, required, named, checked, only, is_single, keeps_value, how_of, inport_body, outport_body, subsystem_body, constant_body, gain_body, sum_body, product_body, unit_delay_body, delay_body, hold_body, switch_body, relational_body, logic_body, conversion_body, transition_body, enable_body, trigger_body, body_of, is_same_type, unless_hollow, block_typed, block_of}
 use Rattle.mdl_systems.specs.Outlines.{Outline}
@@ -28,6 +29,7 @@ use Rattle.mdl_table.proofs.lemmas.RowBlocks.{IsReadable}
 use Rattle.emit_notes.specs.declared.labels.Label.{Label}
 use Rattle.emit_notes.specs.declared.sections.PlacedSection.{PlacedSection}
 use Rattle.emit_notes.specs.Labels.{label_of, label_with, type_of_kind}
+use Rattle.emit_notes.proofs.SectionLemmas.{AllFit32, Fits32}
 use Rattle.emit_notes.specs.Sections.{BlockSection, all_seen, section_of, section_seen, inport_said, outport_said, port_said, label_named, label_typed, label_said}
 
 -- ---- Results one after another
@@ -52,12 +54,29 @@ behind : {A B E : Type 0} (P : B → Type 0) (r : Result A E) (rest : Result B E
 behind P (Ok a) rest h = h
 behind P (Err fault) rest h = tt
 
+-- a number up to a greatest one that fits 32 bits does too
+number-fits : (most port : ℕ) (text : List ℕ) → most ≤ 4_294_967_295 → number_up_to most text ≡ Some port →
+    number_up_to 4_294_967_295 text ≡ Some port
+number-fits most port text fits e = by (whole_number text) e
+  where
+    within : (n : ℕ) (some few : Bool) → nat_le n most ≡ few → cond (some && few) (Some n) None ≡ Some port →
+        cond (some && nat_le n 4_294_967_295) (Some n) None ≡ Some port
+    within n true true p e =
+        ap (λ t. cond t (Some n) None) (le-leb n 4_294_967_295 (let low = leb-true n most p in omega (arith, low, fits))) ∙ e
+    within n true false p e = cc e
+    within n false few p e = e
+
+    by : (o : Option ℕ) → option_and_then (λ n. cond (nat_le 1 n && nat_le n most) (Some n) None) o ≡ Some port →
+        option_and_then (λ n. cond (nat_le 1 n && nat_le n 4_294_967_295) (Some n) None) o ≡ Some port
+    by None e = e
+    by (Some n) e = within n (nat_le 1 n) (nat_le n most) refl e
+
 -- a number that is required is said
-number-there : (most port : ℕ) (text : Option (List ℕ)) →
+number-there : (most port : ℕ) (text : Option (List ℕ)) → most ≤ 4_294_967_295 →
     (ok_or text (Parameter param.Port) >>= λ t. ok_or (number_up_to most t) (Parameter param.Port)) ≡ Ok port →
-    option_and_then (number_up_to most) text ≡ Some port
-number-there most port None e = cc e
-number-there most port (Some text) e = by (number_up_to most text) e
+    option_and_then (number_up_to 4_294_967_295) text ≡ Some port
+number-there most port None fits e = cc e
+number-there most port (Some text) fits e = number-fits most port text fits (by (number_up_to most text) e)
   where
     by : (n : Option ℕ) → ok_or n (Parameter param.Port) ≡ Ok port → n ≡ Some port
     by None e = cc e
@@ -65,18 +84,17 @@ number-there most port (Some text) e = by (number_up_to most text) e
 
 -- ---- Each type of block
 
--- what is read of a block of this type has the type and the ports that its label has, where its port
--- is this one as an Inport and this one as an Outport
-record IsSaid (as_inport as_outport : Option ℕ) (type : BlockType) (body : BodyText) : Type 0 where
+-- what is read of a block of this type, which says this port, has the type and the ports of its label
+record IsSaid (said : Option ℕ) (type : BlockType) (body : BodyText) : Type 0 where
   is : type_of_kind body.kind ≡ type
-  inport : inport_number body.kind ≡ inport_said type as_inport
-  outport : outport_number body.kind ≡ outport_said type as_outport
+  inport : inport_number body.kind ≡ inport_said type said
+  outport : outport_number body.kind ≡ outport_said type said
 
-module _ (as_inport as_outport : Option ℕ) (texts : Texts) where
+module _ (said : Option ℕ) (texts : Texts) where
   abbrev Said : BlockType → BodyText → Type 0
-  Said = IsSaid as_inport as_outport
+  Said = IsSaid said
 
-  inport-said : (inports : ℕ) → ((port : ℕ) → required (number_up_to inports) texts param.Port ≡ Ok port → as_inport ≡ Some port) →
+  inport-said : (inports : ℕ) → ((port : ℕ) → required (number_up_to inports) texts param.Port ≡ Ok port → said ≡ Some port) →
       Gives (Said Inport) (inport_body inports texts)
   inport-said inports h =
       with-result (Said Inport) (required (number_up_to inports) texts param.Port) _ (λ port e.
@@ -85,7 +103,7 @@ module _ (as_inport as_outport : Option ℕ) (texts : Texts) where
       behind (Said Inport) (checked is_single texts PortDimensions) _ (
       record { is = refl; inport = sym (h port e); outport = refl }))))
 
-  outport-said : (outports : ℕ) → ((port : ℕ) → required (number_up_to outports) texts param.Port ≡ Ok port → as_outport ≡ Some port) →
+  outport-said : (outports : ℕ) → ((port : ℕ) → required (number_up_to outports) texts param.Port ≡ Ok port → said ≡ Some port) →
       Gives (Said Outport) (outport_body outports texts)
   outport-said outports h =
       with-result (Said Outport) (required (number_up_to outports) texts param.Port) _ (λ port e.
@@ -207,8 +225,8 @@ module _ (as_inport as_outport : Option ℕ) (texts : Texts) where
       record { is = refl; inport = refl; outport = refl })
 
   body-said : (peers : Peers) (system : Option SectionTree) →
-      ((port : ℕ) → required (number_up_to peers.inports) texts param.Port ≡ Ok port → as_inport ≡ Some port) →
-      ((port : ℕ) → required (number_up_to peers.outports) texts param.Port ≡ Ok port → as_outport ≡ Some port) →
+      ((port : ℕ) → required (number_up_to peers.inports) texts param.Port ≡ Ok port → said ≡ Some port) →
+      ((port : ℕ) → required (number_up_to peers.outports) texts param.Port ≡ Ok port → said ≡ Some port) →
       (type : BlockType) → Gives (Said type) (body_of peers system texts type)
   body-said peers system i o Inport = inport-said peers.inports i
   body-said peers system i o Outport = outport-said peers.outports o
@@ -232,12 +250,12 @@ module _ (as_inport as_outport : Option ℕ) (texts : Texts) where
 
 -- ---- Blocks
 
-module _ (defaults : DefaultTexts) (b : BlockSection) where
+module _ (defaults : DefaultTexts) (b : BlockSection) (peers : Peers) (fit : Fits32 peers) where
   -- the label that is said is that of what is read
   abbrev IsLabelled : Option Label → BlockText → Type 0
   IsLabelled label text = label ≡ Some (label_with b.owner text)
 
-  typed-said : (type_name : List ℕ) → Gives (IsLabelled (label_typed defaults b type_name)) (block_typed defaults b.peers b.section type_name)
+  typed-said : (type_name : List ℕ) → Gives (IsLabelled (label_typed defaults b type_name)) (block_typed defaults peers b.section type_name)
   typed-said type_name = known (block_type_of type_name)
     where
       texts : Texts
@@ -246,38 +264,50 @@ module _ (defaults : DefaultTexts) (b : BlockSection) where
       system : Option SectionTree
       system = first_section (codes "System") b.section.items
 
-      as_port : ℕ → Option ℕ
-      as_port most = port_said defaults b.section type_name most
+      as_port : Option ℕ
+      as_port = port_said defaults b.section type_name
 
-      there : (most port : ℕ) → required (number_up_to most) texts param.Port ≡ Ok port → as_port most ≡ Some port
-      there most port e = number-there most port (parameter_text defaults b.section.items type_name param.Port) e
+      there : (most : ℕ) → most ≤ 4_294_967_295 → (port : ℕ) → required (number_up_to most) texts param.Port ≡ Ok port → as_port ≡ Some port
+      there most fits port e = number-there most port (parameter_text defaults b.section.items type_name param.Port) fits e
 
       labelled : (type : BlockType) (name : List ℕ) (body : BodyText) →
-          IsSaid (as_port b.peers.inports) (as_port b.peers.outports) type body →
+          IsSaid as_port type body →
           label_named defaults b type_name type name
           ≡ label_with b.owner (record { name = name; line = b.section.line; body = body })
       labelled type name body said =
-          ap₂ (λ t i. record { block_type = t; inport = i; outport = outport_said type (as_port b.peers.outports);
-            name = name; line = b.section.line; owner = b.owner }) (sym said.is) (sym said.inport)
-          ∙ ap (λ o. record { block_type = type_of_kind body.kind; inport = inport_number body.kind; outport = o;
-            name = name; line = b.section.line; owner = b.owner }) (sym said.outport)
+          ap₂ (λ t i. record {
+            block_type = t;
+            inport = i;
+            outport = outport_said type as_port;
+            name = name;
+            line = b.section.line;
+            owner = b.owner;
+          }) (sym said.is) (sym said.inport)
+          ∙ ap (λ o. record {
+            block_type = type_of_kind body.kind;
+            inport = inport_number body.kind;
+            outport = o;
+            name = name;
+            line = b.section.line;
+            owner = b.owner;
+          }) (sym said.outport)
 
       with-name : (type : BlockType) (name : Option (List ℕ)) →
           Gives (IsLabelled (option_map (label_named defaults b type_name type) name))
-          (ok_or name (Parameter Name) >>= λ name. body_of b.peers system texts type >>= λ body.
+          (ok_or name (Parameter Name) >>= λ name. body_of peers system texts type >>= λ body.
           Ok (record { name = name; line = b.section.line; body = body }))
       with-name type None = tt
       with-name type (Some name) =
-          with-result (IsLabelled (Some (label_named defaults b type_name type name))) (body_of b.peers system texts type) _ (λ body e.
+          with-result (IsLabelled (Some (label_named defaults b type_name type name))) (body_of peers system texts type) _ (λ body e.
           ap Some (labelled type name body
-          (given (IsSaid (as_port b.peers.inports) (as_port b.peers.outports) type) (body_of b.peers system texts type) body
-          (body-said (as_port b.peers.inports) (as_port b.peers.outports) texts b.peers system
-          (there b.peers.inports) (there b.peers.outports) type) e)))
+          (given (IsSaid as_port type) (body_of peers system texts type) body
+          (body-said as_port texts peers system
+          (there peers.inports fit.0) (there peers.outports fit.1) type) e)))
 
       hollow : (type : BlockType) (is : Bool) (name : Option (List ℕ)) →
           Gives (IsLabelled (option_map (label_named defaults b type_name type) name))
           ((cond is (Err Unsupported) (Ok type)) >>= λ type. ok_or name (Parameter Name) >>= λ name.
-          body_of b.peers system texts type >>= λ body. Ok (record { name = name; line = b.section.line; body = body }))
+          body_of peers system texts type >>= λ body. Ok (record { name = name; line = b.section.line; body = body }))
       hollow type true name = tt
       hollow type false name = with-name type name
 
@@ -285,31 +315,31 @@ module _ (defaults : DefaultTexts) (b : BlockSection) where
           Gives (IsLabelled (option_and_then (λ type. option_map (label_named defaults b type_name type)
           (parameter_text defaults b.section.items type_name Name)) o))
           (ok_or o Unsupported >>= λ own. unless_hollow system own >>= λ type. texts Name >>= λ name.
-          body_of b.peers system texts type >>= λ body. Ok (record { name = name; line = b.section.line; body = body }))
+          body_of peers system texts type >>= λ body. Ok (record { name = name; line = b.section.line; body = body }))
       known None = tt
       known (Some type) =
           hollow type (is_same_type type SubSystem && is_none system) (parameter_text defaults b.section.items type_name Name)
 
-  block-said : Gives (IsLabelled (label_said defaults b)) (block_of defaults b.peers b.section)
+  block-said : Gives (IsLabelled (label_said defaults b)) (block_of defaults peers b.section)
   block-said = by (first_value (codes "BlockType") b.section.items)
     where
       by : (type_name : Option (List ℕ)) →
           Gives (IsLabelled (option_and_then (label_typed defaults b) type_name))
-          (ok_or type_name Unsupported >>= λ type_name. block_typed defaults b.peers b.section type_name)
+          (ok_or type_name Unsupported >>= λ type_name. block_typed defaults peers b.section type_name)
       by None = tt
       by (Some type_name) = typed-said type_name
 
 -- the labels that the sections of blocks say are those of what is read
-pub labels-said : (defaults : DefaultTexts) (os : List Outline) → AllByRecursion (IsReadable defaults) os →
+pub labels-said : (defaults : DefaultTexts) (os : List Outline) → AllFit32 os → AllByRecursion (IsReadable defaults) os →
     filter_map (label_said defaults) (map section_of os) ≡ map label_of (filter_map (block_read defaults) os)
-labels-said defaults [] all = refl
-labels-said defaults (o ∷ os) all =
+labels-said defaults [] fit all = refl
+labels-said defaults (o ∷ os) fit all =
     let text : BlockText = all.0.0 in
     let more : List Block = filter_map (block_read defaults) os in
     ap₂ cons_option
-    (given (IsLabelled defaults (section_of o) (label_said defaults (section_of o))) (read defaults o) text
-    (block-said defaults (section_of o)) all.0.1)
-    (labels-said defaults os all.1)
+    (given (IsLabelled defaults (section_of o) o.peers fit.0 (label_said defaults (section_of o))) (read defaults o) text
+    (block-said defaults (section_of o) o.peers fit.0) all.0.1)
+    (labels-said defaults os fit.1 all.1)
     ∙ sym (ap (λ r. map label_of (cons_option (seen r) more)) all.0.1)
   where
     seen : Result BlockText Fault → Option Block

@@ -8,7 +8,6 @@ use Rattle.mdl_params.specs.declared.BlockType.{BlockType}
 use Rattle.mdl_params.specs.declared.BlockType.TheVariants.{Inport, Outport}
 use Rattle.mdl_params.specs.BlockTypes.{block_type_of}
 use Rattle.mdl_params.specs.Defaults.{DefaultTexts, parameter_text}
-use Rattle.mdl_blocks.specs.declared.peers.Peers.{Peers}
 use Rattle.mdl_blocks.specs.Words.{number_up_to}
 use Rattle.mdl_systems.specs.Outlines.{Outline}
 use Rattle.emit_notes.specs.declared.labels.Label.{Label}
@@ -17,19 +16,18 @@ use Rattle.emit_notes.specs.declared.sections.PlacedSection.{PlacedSection}
 -- ---- Sections
 
 -- The section of a block where it is: the number of the subsystem block around it, none in the
--- root, and how many Inports and Outports its system has.
+-- root.
 pub record BlockSection : Type 0 where
   pub owner : Option ℕ
-  pub peers : Peers
   pub section : SectionTree
 
 -- that of a block of a model
 abbrev pub section_of : Outline → BlockSection
-section_of b = record { owner = b.owner; peers = b.peers; section = b.section }
+section_of b = record { owner = b.owner; section = b.section }
 
 -- one in memory as a plain one
 abbrev pub section_seen : PlacedSection → BlockSection
-section_seen p = record { owner = p.owner; peers = p.peers; section = section_tree p.section.now }
+section_seen p = record { owner = p.owner; section = section_tree p.section.now }
 
 -- the same of all in a list
 abbrev pub all_seen : List PlacedSection → List BlockSection
@@ -51,10 +49,10 @@ abbrev pub outport_said : BlockType → (port : Option ℕ) → Option ℕ
 outport_said Outport port = port
 outport_said _ port = None
 
--- the port that a block with this section says, up to a greatest one
-abbrev pub port_said : DefaultTexts → SectionTree → (type_name : List ℕ) → (most : ℕ) → Option ℕ
-port_said defaults section type_name most =
-    option_and_then (number_up_to most)
+-- the port that a block with this section says; of one that is read it fits 32 bits
+abbrev pub port_said : DefaultTexts → SectionTree → (type_name : List ℕ) → Option ℕ
+port_said defaults section type_name =
+    option_and_then (number_up_to 4_294_967_295)
     (parameter_text defaults section.items type_name param.Port)
 
 -- the label of a block of this type with this name
@@ -62,8 +60,8 @@ abbrev pub label_named : DefaultTexts → BlockSection → (type_name : List ℕ
     (name : List ℕ) → Label
 label_named defaults b type_name type name = record {
   block_type = type;
-  inport = inport_said type (port_said defaults b.section type_name b.peers.inports);
-  outport = outport_said type (port_said defaults b.section type_name b.peers.outports);
+  inport = inport_said type (port_said defaults b.section type_name);
+  outport = outport_said type (port_said defaults b.section type_name);
   name = name;
   line = b.section.line;
   owner = b.owner;

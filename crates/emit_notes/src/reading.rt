@@ -20,11 +20,14 @@ use mdl_systems::{ModelSections, find_model, reading_is_by_defaults};
 use mdl_tree::Section;
 use std::alloc::Global;
 
-/// The port that a block with this section says, up to a greatest one.
-fn port_of(defaults: &Defaults, section: &Section, type_name: &[u8], most: u32) -> Option<u32>
-    ensures { result ≡ port_said defaults.now (section_tree section.now) type_name.now most }
+/// The port that a block with this section says.
+fn port_of(defaults: &Defaults, section: &Section, type_name: &[u8]) -> Option<u32>
+    ensures { result ≡ port_said defaults.now (section_tree section.now) type_name.now }
 {
-    number_up_to(most, defaults.found(section, type_name, ParamName::Port)?)
+    number_up_to(
+        u32::MAX,
+        defaults.found(section, type_name, ParamName::Port)?,
+    )
 }
 
 /// The label of a block, if its section says its type and its name.
@@ -47,11 +50,11 @@ fn label_in(
         return Ok(None);
     };
     let inport = match block_type {
-        BlockType::Inport => port_of(defaults, section, type_name, placed.peers.inports),
+        BlockType::Inport => port_of(defaults, section, type_name),
         _ => None,
     };
     let outport = match block_type {
-        BlockType::Outport => port_of(defaults, section, type_name, placed.peers.outports),
+        BlockType::Outport => port_of(defaults, section, type_name),
         _ => None,
     };
     Ok(Some(Label {

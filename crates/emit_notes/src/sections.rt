@@ -1,13 +1,13 @@
 ghost use Rattle.std.specs.Prelude.{◌≡◌, ◌+◌, ℕ, IfOk, OnOk, length, map};
 ghost use Rattle.mdl_tree.specs.Values.{section_tree};
 ghost use Rattle.mdl_params.specs.declared.BlockType.TheVariants.{SubSystem};
-ghost use Rattle.mdl_blocks.specs.Peers.{peers_in, writes_type};
+ghost use Rattle.mdl_blocks.specs.declared.peers.Peers.{Peers};
+ghost use Rattle.mdl_blocks.specs.Peers.{writes_type};
 ghost use Rattle.mdl_systems.specs.Held.{taken};
 ghost use Rattle.mdl_systems.specs.Outlines.{outlines_in, outlines_inside, outlines_of};
 ghost use Rattle.emit_notes.specs.Sections.{all_seen, section_of, with_blocks};
 
 use base_core::Memory;
-use mdl_blocks::Peers;
 use mdl_params::BlockType;
 use mdl_tree::{Item, Section};
 use std::alloc::Global;
@@ -17,8 +17,6 @@ use std::alloc::Global;
 pub(crate) struct PlacedSection<'a> {
     /// The number of the subsystem block around it, in the order of the file from 0; none in the root.
     pub owner: Option<usize>,
-    /// How many Inports and Outports its system has.
-    pub peers: Peers,
     /// Its section.
     pub section: &'a Section,
 }
@@ -53,15 +51,14 @@ fn take_system<'a>(
     owner: Option<usize>,
     system: &'a Section,
 ) -> Result<(), Memory>
-    ensures { OnOk result ((depth : ℕ) → all_seen sections.new.items ≡ with_blocks sections.old.items
-        (outlines_in (length sections.old.items) owner depth
-        (peers_in (section_tree system.now).items) (section_tree system.now).items)) }
+    ensures { OnOk result ((depth : ℕ) (peers : Peers) → all_seen sections.new.items
+        ≡ with_blocks sections.old.items
+        (outlines_in (length sections.old.items) owner depth peers (section_tree system.now).items)) }
 {
-    let peers = Peers::of(system);
     for item in system.items.as_slice() {
         if let Item::Section(section) = item {
             if section.name.bytes() == b"Block".as_slice() {
-                take_block(sections, owner, peers, section)?;
+                take_block(sections, owner, section)?;
             }
         }
     }
@@ -73,18 +70,14 @@ fn take_system<'a>(
 fn take_block<'a>(
     sections: &mut Vec<PlacedSection<'a>>,
     owner: Option<usize>,
-    peers: Peers,
     section: &'a Section,
 ) -> Result<(), Memory>
-    ensures { OnOk result ((depth : ℕ) → all_seen sections.new.items ≡ with_blocks sections.old.items
+    ensures { OnOk result ((depth : ℕ) (peers : Peers) → all_seen sections.new.items
+        ≡ with_blocks sections.old.items
         (taken (length sections.old.items) owner depth peers (section_tree section.now))) }
 {
     let number = sections.len();
-    sections.push(PlacedSection {
-        owner,
-        peers,
-        section,
-    })?;
+    sections.push(PlacedSection { owner, section })?;
     if is_subsystem(section) {
         take_inside(sections, number, section)
     } else {
