@@ -20,25 +20,41 @@ use lustre_grammar::{LusWrittenEq, LusWrittenExpr, ReadLusFault};
 use lustre_syntax::LusEq;
 use std::alloc::Global;
 
+/// The equation of one name, as it is written on a line.
+#[derive(Drop)]
+struct WrittenSet<'s, 'a> {
+    line: u32,
+    name: &'s [u8],
+    value: &'s LusWrittenExpr<'a>,
+}
+
+/// The equation of the outputs of a call, as it is written on a line.
+#[derive(Drop)]
+struct WrittenCall<'s, 'a> {
+    line: u32,
+    names: &'s [&'a [u8]],
+    callee: &'s [u8],
+    values: &'s [LusWrittenExpr<'a>],
+}
+
 /// What the equation of one name stands for.
 fn resolve_set(
     alloc: Global,
     place: &Place,
     given: &mut Given,
-    line: u32,
-    name: &[u8],
-    value: &LusWrittenExpr,
+    written: &WrittenSet,
 ) -> Result<LusEq, ReadLusFault>
     ensures resolved { Gives equation_tree result
         (rules.resolve_equation (scope_of place.now given.old.places.keys)
-        (set line name.now (expr_of value.now))) }
+        (set written.now.line written.now.name.now (expr_of written.now.value.now))) }
     ensures taken { IfOk result (λ e. given.new.places.keys
         ≡ given.old.places.keys ++ given_by (equation_tree e)) }
 {
-    let name = given.take(place, line, name)?;
-    let agrees = fits(place.names, value, place.names.type_at(name));
+    let line = written.line;
+    let name = given.take(place, line, written.name)?;
+    let agrees = fits(place.names, written.value, place.names.type_at(name));
     on_line(line, unless_fault(agrees, CKind::TypeRule))?;
-    let value = resolve_expr(alloc, place.names, value)?;
+    let value = resolve_expr(alloc, place.names, written.value)?;
     Ok(LusEq::Set { line, name, value })
 }
 
@@ -47,23 +63,20 @@ fn resolve_call(
     alloc: Global,
     place: &Place,
     given: &mut Given,
-    line: u32,
-    names: &[&[u8]],
-    callee: &[u8],
-    values: &[LusWrittenExpr],
+    written: &WrittenCall,
 ) -> Result<LusEq, ReadLusFault>
     ensures resolved { Gives equation_tree result
         (rules.resolve_equation (scope_of place.now given.old.places.keys)
-        (call line (map (λ name. name.now) names.now) callee.now (map expr_of values.now))) }
+        (call written.now.line (map (λ name. name.now) written.now.names.now)
+        written.now.callee.now (map expr_of written.now.values.now))) }
     ensures taken { IfOk result (λ e. given.new.places.keys
         ≡ given.old.places.keys ++ given_by (equation_tree e)) }
 {
-    let names = given.take_all(alloc, place, line, names)?;
-    let node = on_line(
-        line,
-        resolve_callee(place, names.as_slice(), callee, values),
-    )?;
-    let values = resolve_exprs(alloc, place.names, values)?;
+    let line = written.line;
+    let names = given.take_all(alloc, place, line, written.names)?;
+    let callee = resolve_callee(place, names.as_slice(), written.callee, written.values);
+    let node = on_line(line, callee)?;
+    let values = resolve_exprs(alloc, place.names, written.values)?;
     Ok(LusEq::Call {
         line,
         names: Wires::new(names),
@@ -89,21 +102,28 @@ fn resolve_equation(
             line,
             given: name,
             value,
-        } => resolve_set(alloc, place, given, *line, name, value),
+        } => {
+            let written = WrittenSet {
+                line: *line,
+                name,
+                value,
+            };
+            resolve_set(alloc, place, given, &written)
+        }
         LusWrittenEq::Call {
             line,
             given: names,
             callee,
             values,
-        } => resolve_call(
-            alloc,
-            place,
-            given,
-            *line,
-            names.as_slice(),
-            callee,
-            values.as_slice(),
-        ),
+        } => {
+            let written = WrittenCall {
+                line: *line,
+                names: names.as_slice(),
+                callee,
+                values: values.as_slice(),
+            };
+            resolve_call(alloc, place, given, &written)
+        }
     }
 }
 
