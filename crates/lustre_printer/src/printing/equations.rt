@@ -1,7 +1,7 @@
 // Expressions and equations.
 ghost use Rattle.std.specs.Prelude.{◌≡◌, ◌++◌, map, codes, OnOk};
 ghost use Rattle.c_syntax.specs.Names.{name_at};
-ghost use Rattle.lustre_syntax.specs.Tree.{set, call};
+ghost use Rattle.lustre_syntax.specs.Tree as tree;
 ghost use Rattle.lustre_syntax.specs.Plain.{expr_tree, equation_tree};
 ghost use Rattle.lustre_grammar.specs.Grammar.{truth_text, op_text};
 ghost use Rattle.lustre_printer.specs.Printing.{number_bytes, expr_bytes, parted, equation_bytes};
@@ -155,7 +155,7 @@ fn print_set(
 ) -> Result<(), AllocError>
     ensures { OnOk result (out.new.items ≡ out.old.items
         ++ equation_bytes (nodes_in scope.now) (names_in scope.now)
-        (set 0 given (expr_tree value.now))) }
+        (tree.set 0 given (expr_tree value.now))) }
 {
     push(out, scope.name(given))?;
     push(out, b" = ")?;
@@ -163,23 +163,29 @@ fn print_set(
     push(out, b";\n")
 }
 
+/// A call of a node: the places of the names that it gives, the node's position, and its arguments.
+#[derive(Drop)]
+struct Call<'a> {
+    given: &'a [u32],
+    callee: u32,
+    values: &'a [LusExpr],
+}
+
 fn print_call(
     alloc: Global,
     out: &mut Vec<u8>,
     scope: &Scope,
-    given: &[u32],
-    callee: u32,
-    values: &[LusExpr],
+    call: &Call,
 ) -> Result<(), AllocError>
     ensures { OnOk result (out.new.items ≡ out.old.items
         ++ equation_bytes (nodes_in scope.now) (names_in scope.now)
-        (call 0 given.now callee (map expr_tree values.now))) }
+        (tree.call 0 call.now.given.now call.now.callee (map expr_tree call.now.values.now))) }
 {
-    print_given(out, scope, given)?;
+    print_given(out, scope, call.given)?;
     push(out, b" = call ")?;
-    push(out, scope.node(callee))?;
+    push(out, scope.node(call.callee))?;
     push(out, b"(")?;
-    print_values(alloc, out, scope, values)?;
+    print_values(alloc, out, scope, call.values)?;
     push(out, b");\n")
 }
 
@@ -199,6 +205,13 @@ pub(super) fn print_equation(
             node,
             values,
             ..
-        } => print_call(alloc, out, scope, names.wires(), *node, values),
+        } => {
+            let call = Call {
+                given: names.wires(),
+                callee: *node,
+                values,
+            };
+            print_call(alloc, out, scope, &call)
+        }
     }
 }
