@@ -1,9 +1,12 @@
-# Models, C texts and traces of a given size, for bench/table and bench/instructions, which have set `top`. Each function writes to standard
-# output.
+# Models, C texts, files of Lustre and traces of a given size, for bench/table and bench/instructions, which have set `top`. Each function
+# writes to standard output.
 # shellcheck shell=bash disable=SC2154 # `top`
 
 # The model of the function $1 of sized_models.py; $2 is its size, and what follows its order.
 sized_model() { python3 -B "$top/bench/sized_models.py" "$@"; }
+
+# The file of Lustre of the function $1 of sized_lustre.py; $2 is its size, and what follows its order.
+sized_file() { python3 -B "$top/bench/sized_lustre.py" "$@"; }
 
 # The one-wire model $1, with so many bytes in its Model: ordinary lines, or one long one.
 padded_model() {
