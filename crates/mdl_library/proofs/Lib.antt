@@ -1,0 +1,16 @@
+pub mod Weights
+pub mod Blocks
+pub mod SizeLemmas
+pub mod ItemLemmas
+pub mod SelfNeeds
+pub mod HeadingLemmas
+pub mod WrittenLemmas
+pub mod OneExpansion
+pub mod TreeSizes
+pub mod GivenLemmas
+pub mod SourceLemmas
+pub mod GraphLemmas
+pub mod UnnamedLemmas
+pub mod MaskLemmas
+pub mod WrittenSizes
+pub mod WrittenReferences

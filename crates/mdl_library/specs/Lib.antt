@@ -1,0 +1,15 @@
+pub mod Items
+pub mod Given
+pub mod Library
+pub mod References
+pub mod Written
+pub mod Sizes
+pub mod Held
+pub mod HeldGraph
+pub mod HeldItems
+pub mod HeldSizes
+pub mod HeldWriting
+pub mod Texts
+pub mod Refusals
+pub mod Laws
+pub mod Examples
