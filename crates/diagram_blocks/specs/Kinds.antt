@@ -3,7 +3,7 @@ use Rattle.std.specs.Prelude.{ℕ, Bool, true, false}
 use Rattle.base_core.specs.declared.Control.{Control}
 use Rattle.base_core.specs.declared.Control.TheVariants.{Plain}
 use Rattle.diagram_blocks.specs.declared.kind.Kind.{Kind}
-use Rattle.diagram_blocks.specs.declared.kind.Kind.TheVariants.{Inport, Outport, SubSystem, Constant, Ground, Terminator, Gain, Sum, Product, UnitDelay, Delay, ZeroOrderHold, Switch, Relational, Logic, Convert, RateTransition, EnablePort, TriggerPort}
+use Rattle.diagram_blocks.specs.declared.kind.Kind.TheVariants.{Inport, Outport, SubSystem, Delay}
 use Rattle.diagram_blocks.specs.declared.op.Op.{Op}
 use Rattle.diagram_blocks.specs.declared.op.Op.TheVariants as op
 

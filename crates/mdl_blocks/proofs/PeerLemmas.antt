@@ -1,11 +1,13 @@
 -- Blocks of a type, counted item by item.
-use Rattle.std.proofs.Common.{◌≡◌, ◌∙◌, ap, ℕ, ◌+◌, ◌<◌, Bool, true, false, ◌&&◌, cond, List, ◌∷◌, length, drop, slice_index_or, codes, arith}
+use Rattle.std.proofs.Common.{◌≡◌, sym, ◌∙◌, ap, ℕ, ◌+◌, ◌<◌, ◌≤◌, Bool, true, false, ◌&&◌, cond, List, ◌∷◌, length, drop, slice_index_or, codes, arith}
 use Rattle.std.specs.Prelude.{filter, bytes_eq}
+use Rattle.mdl_tree.specs.declared.tree.Section as held
 use Rattle.mdl_tree.specs.declared.tree.Item.{Item, Param, Section'}
+use Rattle.mdl_tree.specs.declared.tree.Item.TheViews as views
 use Rattle.mdl_tree.specs.Spelling.{Items, End, Section}
 use Rattle.mdl_tree.specs.Walks.{SectionTree, sections_named}
 use Rattle.mdl_tree.specs.Values.{with_row, with_item, items_of}
-use Rattle.mdl_tree.proofs.lemmas.Rows.{items_from}
+use Rattle.mdl_tree.proofs.lemmas.Rows.{section_in, items_from}
 use Rattle.mdl_params.specs.declared.BlockType.{BlockType}
 use Rattle.mdl_blocks.specs.Peers.{writes_type, count_in, is_block_of}
 
@@ -40,6 +42,15 @@ count-item : (type : BlockType) (item : Item) (rest : Items) →
 count-item type (Param name value line) rest = omega arith
 count-item type (Section' name line shape items) rest = count-section type name line (with_row items) rest
 
+-- a section named Block is a block of the type that it writes
+pub block-at : (type : BlockType) (item : Item) (section : held.Section) (t : Bool) → item ≡ views.Section section →
+    bytes_eq section.name (codes "Block") ≡ true → t ≡ writes_type type (items_of section.items.items) →
+    t ≡ is_block_of type (with_item item End)
+block-at type item section t is named e =
+    e
+    ∙ sym (ap (λ x. is_block_of type (with_item x End)) is ∙ ap (is_block_of type) (section_in section End)
+    ∙ ap (λ t. t && writes_type type (items_of section.items.items)) named)
+
 -- one item more is counted
 pub count-more : (type : BlockType) (items : List Item) (i : ℕ) (item : Item) (t : Bool) (count whole : ℕ) →
     i < length items → item ≡ slice_index_or items i item →
@@ -56,3 +67,8 @@ count-more type items i item t count whole h e test all =
         cond t (count + 1) count + count_in type rest ≡ whole
     by true split = omega (arith, split, all)
     by false split = omega (arith, split, all)
+
+-- no more are counted than there are items
+pub at-most-more : (t : Bool) (before now i : ℕ) → now ≡ cond t (before + 1) before → before ≤ i → now ≤ i + 1
+at-most-more true before now i e h = omega (arith, e, h)
+at-most-more false before now i e h = omega (arith, e, h)

@@ -1,8 +1,9 @@
-ghost use Rattle.std.specs.Prelude.{◌≡◌};
+ghost use Rattle.std.specs.Prelude.{◌≡◌, ◌<◌, ◌+◌, ◌-◌, ◌^◌, cond};
 ghost use Rattle.base_core.specs.Numbers.{reported_number};
 ghost use Rattle.mdl_tree.specs.Spelling.{End};
 ghost use Rattle.mdl_tree.specs.Values.{section_tree, with_item};
-ghost use Rattle.mdl_blocks.specs.Peers.{count_in, is_block_of, peers_in, writes_type};
+ghost use Rattle.mdl_params.specs.declared.BlockType.TheVariants.{Inport, Outport};
+ghost use Rattle.mdl_blocks.specs.Peers.{is_block_of, peers_in, writes_type};
 
 use mdl_params::BlockType;
 use mdl_tree::{Item, Section};
@@ -21,9 +22,16 @@ impl Peers {
     pub fn of(system: &Section) -> Peers
         ensures { result ≡ peers_in (section_tree system.now).items }
     {
+        let mut inports = 0;
+        let mut outports = 0;
+        for item in system.items.as_slice() {
+            let port = PortType::of_item(item);
+            inports = counted(inports, port.is_inport);
+            outports = counted(outports, port.is_outport);
+        }
         Peers {
-            inports: reported(count_in(system, BlockType::Inport)),
-            outports: reported(count_in(system, BlockType::Outport)),
+            inports: reported(inports),
+            outports: reported(outports),
         }
     }
 }
@@ -35,37 +43,52 @@ fn reported(count: usize) -> u32
     count.min(u32::MAX as usize) as u32
 }
 
-/// How many blocks of a type a System has.
-fn count_in(system: &Section, block_type: BlockType) -> usize
-    ensures { result ≡ count_in block_type (section_tree system.now).items }
+/// A count with one more, where this is counted.
+fn counted(count: usize, is_counted: bool) -> usize
+    requires { count < 2 ^ 64 - 1 }
+    ensures { result ≡ cond is_counted (count + 1) count }
 {
-    let mut count = 0;
-    for item in system.items.as_slice() {
-        if is_block_of(item, block_type) {
-            count += 1;
-        }
-    }
-    count
+    if is_counted { count + 1 } else { count }
 }
 
-/// Whether an item is a block of this type.
-fn is_block_of(item: &Item, block_type: BlockType) -> bool
-    ensures { result ≡ is_block_of block_type (with_item item.now End) }
-{
-    match item {
-        Item::Param { .. } => false,
-        Item::Section(section) => {
-            section.name.bytes() == b"Block".as_slice() && writes_type(section, block_type)
-        }
-    }
+/// Which of the two types of port a block has, if it has one of them.
+#[derive(Clone, Copy, Drop)]
+struct PortType {
+    is_inport: bool,
+    is_outport: bool,
 }
 
-/// Whether a block's section writes this BlockType.
-fn writes_type(section: &Section, block_type: BlockType) -> bool
-    ensures { result ≡ writes_type block_type (section_tree section.now).items }
-{
-    match section.param(b"BlockType") {
-        Some(text) => block_type.name().as_bytes() == text.bytes(),
-        None => false,
+impl PortType {
+    /// That of an item, if it is a block.
+    fn of_item(item: &Item) -> PortType
+        ensures inport { result.is_inport ≡ is_block_of Inport (with_item item.now End) }
+        ensures outport { result.is_outport ≡ is_block_of Outport (with_item item.now End) }
+    {
+        if let Item::Section(section) = item {
+            if section.name.bytes() == b"Block".as_slice() {
+                return PortType::of_block(section);
+            }
+        }
+        PortType {
+            is_inport: false,
+            is_outport: false,
+        }
+    }
+
+    /// That of a block's section, whose BlockType is looked up once.
+    fn of_block(section: &Section) -> PortType
+        ensures inport { result.is_inport ≡ writes_type Inport (section_tree section.now).items }
+        ensures outport { result.is_outport ≡ writes_type Outport (section_tree section.now).items }
+    {
+        match section.param(b"BlockType") {
+            Some(text) => PortType {
+                is_inport: BlockType::Inport.name().as_bytes() == text.bytes(),
+                is_outport: BlockType::Outport.name().as_bytes() == text.bytes(),
+            },
+            None => PortType {
+                is_inport: false,
+                is_outport: false,
+            },
+        }
     }
 }

@@ -2,6 +2,8 @@ pub mod OutlineLemmas
 pub mod SystemLemmas
 pub mod OwnerLemmas
 pub mod PassLemmas
+pub mod HollowLemmas
+pub mod RootLemmas
 pub mod ReadLemmas
 pub mod NumberLemmas
 pub mod DefaultLemmas

@@ -25,7 +25,7 @@ const MOST_PORTS: u32 = 32;
 fn deep(block: &Outline) -> Option<Refusal>
     ensures { as_plain result ≡ refused.deep (seen block.now) }
 {
-    if is_subsystem(block.section) && block.depth > MOST_AROUND {
+    if block.depth > MOST_AROUND && is_subsystem(block.section) {
         Some(Refusal::TooDeep {
             line: block.section.line,
         })
@@ -69,10 +69,9 @@ fn crowd_at(line: u32, what: Many, count: u32) -> Option<Refusal>
 }
 
 /// The refusal of a system at this line with too many Inports or Outports.
-fn crowd_of(line: u32, system: &Section) -> Option<Refusal>
-    ensures { as_plain result ≡ refused.crowd_of line (peers_in (section_tree system.now).items) }
+fn crowd_of(line: u32, peers: Peers) -> Option<Refusal>
+    ensures { as_plain result ≡ refused.crowd_of line peers }
 {
-    let peers = Peers::of(system);
     earlier(
         crowd_at(line, Many::Inports, peers.inports),
         crowd_at(line, Many::Outports, peers.outports),
@@ -83,7 +82,18 @@ fn crowd_of(line: u32, system: &Section) -> Option<Refusal>
 fn crowd_inside(block: &Outline) -> Option<Refusal>
     ensures { as_plain result ≡ least_in refused.crowd (systems_inside (seen block.now)) }
 {
-    crowd_of(block.section.line, system_inside(block)?)
+    crowd_of(block.section.line, Peers::of(system_inside(block)?))
+}
+
+/// How many Inports and Outports the root of a model with these blocks has, which its first block knows.
+fn root_peers(system: &Section, blocks: &[Outline]) -> Peers
+    requires { all_seen blocks.now ≡ outlines_of (section_tree system.now) }
+    ensures { result ≡ peers_in (section_tree system.now).items }
+{
+    match blocks.first() {
+        Some(block) => block.peers,
+        None => Peers::of(system),
+    }
 }
 
 /// The first system of a model with these blocks that has too many Inports or Outports.
@@ -91,7 +101,7 @@ fn least_crowd(system: &Section, blocks: &[Outline]) -> Option<Refusal>
     requires { all_seen blocks.now ≡ outlines_of (section_tree system.now) }
     ensures { as_plain result ≡ least_in refused.crowd (systems_of (section_tree system.now)) }
 {
-    let mut least = crowd_of(system.line, system);
+    let mut least = crowd_of(system.line, root_peers(system, blocks));
     for block in blocks {
         least = earlier(least, crowd_inside(block));
     }

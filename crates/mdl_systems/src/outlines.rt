@@ -25,12 +25,14 @@ pub(crate) fn is_subsystem(section: &Section) -> bool
 }
 
 /// The System inside a block, if it is a subsystem and has one.
+#[tactic(auto, using(crate::proofs::HollowLemmas::none_inside))]
 pub(crate) fn system_inside<'a>(block: &Outline<'a>) -> Option<&'a Section>
     ensures { map (written.inner_system (seen block.now)) (option_to_list (tree_at result))
         ≡ written.systems_inside (seen block.now) }
 {
+    let system = block.section.section(b"System")?;
     if is_subsystem(block.section) {
-        block.section.section(b"System")
+        Some(system)
     } else {
         None
     }
