@@ -506,6 +506,10 @@ void top_reset(struct top *s) {
 
 void root_start(struct root *s) {
     top_start(&s->top); /* the model */
+    s->y1 = (uint16_t)(int64_t)s->top.v75; /* output 1 */
+    s->y2 = (int16_t)(int64_t)s->top.v76; /* output 2 */
+    s->y3 = (int16_t)(int64_t)s->top.v77; /* output 3 */
+    s->y4 = (uint8_t)(int64_t)s->top.v78; /* output 4 */
     s->now = (int32_t)INT64_C(0); /* tick of the cycle */
 }
 

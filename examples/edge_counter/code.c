@@ -162,6 +162,9 @@ void top_reset(struct top *s) {
 
 void root_start(struct root *s) {
     top_start(&s->top); /* the model */
+    s->y1 = (uint8_t)(int64_t)s->top.v15; /* output 1 */
+    s->y2 = (uint16_t)(int64_t)s->top.v16; /* output 2 */
+    s->y3 = (uint16_t)(int64_t)s->top.v17; /* output 3 */
     s->now = (int32_t)INT64_C(0); /* tick of the cycle */
 }
 

@@ -151,6 +151,8 @@ void top_reset(struct top *s) {
 
 void root_start(struct root *s) {
     top_start(&s->top); /* the model */
+    s->y1 = (int16_t)(int64_t)s->top.v17; /* output 1 */
+    s->y2 = (int16_t)(int64_t)s->top.v18; /* output 2 */
     s->now = (int32_t)INT64_C(0); /* tick of the cycle */
 }
 

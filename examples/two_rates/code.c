@@ -89,6 +89,8 @@ void top_reset(struct top *s) {
 
 void root_start(struct root *s) {
     top_start(&s->top); /* the model */
+    s->y1 = (int16_t)(int64_t)s->top.v8; /* output 1 */
+    s->y2 = (int32_t)(int64_t)s->top.v9; /* output 2 */
     s->now = (int32_t)INT64_C(0); /* tick of the cycle */
 }
 

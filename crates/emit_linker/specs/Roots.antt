@@ -1,10 +1,9 @@
 -- The root's two procedures, by how many outputs the root has and by what a step takes.
 use Rattle.std.specs.Prelude.{ℕ, ◌+◌, false, List, [], ◌∷◌, ◌++◌, map, length, pos, codes as text}
-use Rattle.std.specs.List.{enumerate_from}
 use Rattle.c_syntax.specs.declared.code.BinOp.TheVariants.{Add, Rem}
 use Rattle.c_syntax.specs.declared.code.Leaf.TheVariants as leaf
 use Rattle.c_syntax.specs.Tree.{StmtTree, assign, binary, literal, read, stmts_of_list, ParamTree, ProcedureTree}
-use Rattle.emit_shape.specs.Assembled.{code_at, call_top, out_names}
+use Rattle.emit_shape.specs.Assembled.{code_at, call_top, out_names, output_copies}
 use Rattle.emit_shape.specs.Names.{root_start_name, root_step_name}
 use Rattle.emit_shape.specs.SystemTree.{SystemTree}
 
@@ -33,15 +32,14 @@ module _ (all : List SystemTree) where
   root_start count =
       root_procedure root_start_name []
       (call_top all [] count ((code_at all 0).structure.name ++ text "_start")
-      ∷ assign 0 0 (literal (pos 0)) ∷ [])
+      ∷ output_copies all count ++ assign 0 0 (literal (pos 0)) ∷ [])
 
   -- the one that makes a step
   abbrev pub step_statements : List ParamTree → ℕ → ℕ → List StmtTree
   step_statements params count hyper =
       map (call_top all params count)
       (out_names (code_at all 0) ++ ((code_at all 0).structure.name ++ text "_update") ∷ [])
-      ++ map (output_store count) (enumerate_from 0 (code_at all 0).outputs)
-      ++ tick_store hyper ∷ []
+      ++ output_copies all count ++ tick_store hyper ∷ []
 
   abbrev pub root_step : List ParamTree → ℕ → ℕ → ProcedureTree
   root_step params count hyper =

@@ -42,16 +42,19 @@ fn start_call(alloc: Global, codes: &Codes<'_>, count: u32) -> Result<Stmt, Memo
     call_top(alloc, codes, &[], count, name.bytes())
 }
 
-/// What starts the topmost system and the tick, where the root has so many outputs.
+/// What starts the topmost system, copies its outputs and starts the tick, where the root has so
+/// many outputs.
 pub(crate) fn start_body(alloc: Global, codes: &Codes<'_>, count: u32) -> Result<Vec<Stmt>, Memory>
     requires { count + 1 < 2 ^ 32 }
     ensures { IfOk result (λ v. map stmt_tree v.items
         ≡ assembled.call_top (trees codes.now.list.now) [] count
         ((assembled.code_at (trees codes.now.list.now) 0).structure.name ++ text "_start")
-        ∷ assign 0 0 (literal (pos 0)) ∷ []) }
+        ∷ assembled.output_copies (trees codes.now.list.now) count
+        ++ assign 0 0 (literal (pos 0)) ∷ []) }
 {
     let mut list = Vec::new(alloc);
     list.push(start_call(alloc, codes, count)?)?;
+    push_outputs(count, outputs_of(codes.at(0)), &mut list)?;
     list.push(store(0, Expr::Literal(0)))?;
     Ok(list)
 }
@@ -125,8 +128,7 @@ pub(crate) fn step_body(
         IfOk result (λ v. map stmt_tree v.items
         ≡ map (assembled.call_top (trees codes.now.list.now) (param_trees params.now) count)
         (assembled.out_names top ++ (top.structure.name ++ text "_update") ∷ [])
-        ++ map (λ e. assign 0 (e.0 + 1) (read (child_leaf (count + 1) e.1)))
-        (enumerate_from 0 top.outputs)
+        ++ assembled.output_copies (trees codes.now.list.now) count
         ++ assign 0 0 (binary Rem (binary Add (read (own_leaf 0)) (literal (pos 1)))
         (literal (pos hyper))) ∷ []) }
 {

@@ -128,6 +128,12 @@ module _ (all : List SystemTree) where
       (option_map (λ (q : ProcedureTree). q.params)
       (find (λ q. bytes_eq q.name name) (code_at 0).procedures)) [])))
 
+  -- the copy of each output of `top`
+  abbrev pub output_copies : ℕ → List StmtTree
+  output_copies outputs =
+      map (λ e. assign 0 (e.0 + 1) (read (leaf.Child (outputs + 1) e.1)))
+      (enumerate_from 0 (code_at 0).outputs)
+
   -- the struct and procedures of the root, by the root's own rows
   module _ (root : LocalSystem) (hyper : ℕ) where
     abbrev pub root_params : List ParamTree
@@ -155,7 +161,7 @@ module _ (all : List SystemTree) where
           of = length all;
           params = [];
           body = stmts_of_list (call_top [] outputs ((code_at 0).structure.name ++ text "_start")
-              ∷ assign 0 0 (literal (pos 0)) ∷ []);
+              ∷ output_copies outputs ++ assign 0 0 (literal (pos 0)) ∷ []);
         }
         ∷ record {
           name = root_step_name;
@@ -165,9 +171,7 @@ module _ (all : List SystemTree) where
           body = stmts_of_list
               (map (call_top root_params outputs)
               (out_names (code_at 0) ++ ((code_at 0).structure.name ++ text "_update") ∷ [])
-              ++ map (λ e. assign 0 (e.0 + 1) (read (leaf.Child (outputs + 1) e.1)))
-              (enumerate_from 0 (code_at 0).outputs)
-              ++ assign 0 0 (binary Rem (binary Add (read (leaf.Own 0)) (literal (pos 1)))
+              ++ output_copies outputs ++ assign 0 0 (binary Rem (binary Add (read (leaf.Own 0)) (literal (pos 1)))
               (literal (pos hyper))) ∷ []);
         }
         ∷ []

@@ -98,16 +98,23 @@ BeginsTick p q (assign line f value) =
     ((names_in p q.of).own f ≡ now_name) × (literal_number value ≡ pos 0)
 BeginsTick p q _ = ⊥
 
--- a tick: each function of `top` by number, its update, each output by port, and the move to the
--- next tick
+-- each output by port
+abbrev pub copied_outputs : Diagram → List RootStep
+copied_outputs d =
+    map (λ (o : ℕ × ℕ). copies o.0 o.1) (enumerate_from 1 (outports_of d.rows None))
+
+-- a start, but for the tick: that of `top`, and then each output
+abbrev pub start_steps : Diagram → SystemHeader → List RootStep
+start_steps d top = calls (start_head top) ∷ copied_outputs d
+
+-- a tick: each function of `top` by number, its update, each output, and the move to the next tick
 abbrev pub tick_steps : Diagram → SystemHeader → List RootStep
 tick_steps d top =
-    map calls (out_heads top) ++ calls (update_head top)
-    ∷ map (λ (o : ℕ × ℕ). copies o.0 o.1) (enumerate_from 1 (outports_of d.rows None))
-    ++ moves_on ∷ []
+    map calls (out_heads top) ++ calls (update_head top) ∷ copied_outputs d ++ moves_on ∷ []
 
--- `struct root` has the tick, the outputs and `top`; `root_start` starts `top`, makes the tick 0,
--- and stores nothing else; `root_step` takes the inputs and does the steps of a tick
+-- `struct root` has the tick, the outputs and `top`; `root_start` starts `top`, then copies each
+-- output from its Outport's field, makes the tick 0, and stores nothing else; `root_step` takes the
+-- inputs and does the steps of a tick
 pub record HasRootCode (p : ProgramTree) (d : Diagram) (hyper : ℕ) : Type 0 where
   pub profile : SystemProfile
   pub is_profile : IsProfileOf d None profile
@@ -127,8 +134,7 @@ pub record HasRootCode (p : ProgramTree) (d : Diagram) (hyper : ℕ) : Type 0 wh
   pub begins : 0 < length (filter is_literal_store (list_of_stmts start.body))
   pub tick_alone : AllByRecursion (BeginsTick p start)
       (filter is_literal_store (list_of_stmts start.body))
-  pub starts : AllZip (Does p hyper start)
-      (calls (Rattle.emit_shape.specs.Heads.start_head (header_of d None profile)) ∷ [])
+  pub starts : AllZip (Does p hyper start) (start_steps d (header_of d None profile))
       (filter (λ st. not (is_literal_store st)) (list_of_stmts start.body))
   pub does : AllZip (Does p hyper step) (tick_steps d (header_of d None profile))
       (list_of_stmts step.body)

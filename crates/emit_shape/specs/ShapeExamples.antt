@@ -1,12 +1,13 @@
--- The heads of a child's code, the place of its output around it, and the steps of a tick.
+-- The heads of a child's code, the place of its output around it, and the steps of a start and of a
+-- tick.
 use Rattle.std.specs.Prelude.{◌≡◌, refl, not, [], ◌∷◌, map, filter, None, codes}
 use Rattle.std.specs.Fmt.{digits}
 use Rattle.modules_profile.specs.LocalSamples.{shared_child, inner_header, outer_local, outer_profile}
 use Rattle.modules_profile.specs.SystemHeader.{SystemHeader}
 use Rattle.modules_profile.specs.Headers.{header_of}
 use Rattle.emit_shape.specs.NamedLeaf.{child}
-use Rattle.emit_shape.specs.Heads.{head_of, out_head, update_head, public_heads}
-use Rattle.emit_shape.specs.RootCode.{calls, copies, moves_on, tick_steps}
+use Rattle.emit_shape.specs.Heads.{head_of, out_head, update_head, start_head, public_heads}
+use Rattle.emit_shape.specs.RootCode.{calls, copies, moves_on, start_steps, tick_steps}
 use Rattle.emit_shape.specs.Rules.{wire_place}
 use Rattle.emit_shape.specs.TinySamples.{inner_procedures}
 
@@ -28,3 +29,7 @@ in_order : tick_steps shared_child top_header
     ≡ calls (out_head top_header 1) ∷ calls (out_head top_header 2) ∷ calls (update_head top_header)
     ∷ copies 1 6 ∷ copies 2 7 ∷ moves_on ∷ []
 in_order = refl
+
+-- a start starts it, and copies both outputs
+begun : start_steps shared_child top_header ≡ calls (start_head top_header) ∷ copies 1 6 ∷ copies 2 7 ∷ []
+begun = refl

@@ -27,7 +27,7 @@ use Rattle.right_claim.specs.Calls.{IsWholeTick}
 use Rattle.right_claim.specs.Driving.{TakesTraces}
 use Rattle.right_claim.specs.Right.{StaysInBound, AnswersAnyOrder}
 use Rattle.right_claim.specs.Anew.{forms_at, RenewsAll, Restarts}
-use Rattle.right_claim.specs.SharedSamples.{trace, repeats_shared, called_first_alone, takes_unused, one_step, idle_functions, flat_step, divides_by_zero, over_bound, leaves_values, leaves_counter, leaves_child, stores_values, leaves_tick}
+use Rattle.right_claim.specs.SharedSamples.{trace, repeats_shared, called_first_alone, takes_unused, one_step, idle_functions, flat_step, divides_by_zero, over_bound, leaves_values, leaves_counter, leaves_child, stores_values, leaves_tick, leaves_output}
 use Rattle.right_claim.proofs.SharedNeeds.{not_second, outer_input, outer_needs}
 
 -- ---- The run
@@ -235,3 +235,10 @@ whole_midst = more_cells (number (pos 1)) (more_cells (number (pos 9)) (more_cel
 left_tick : Restarts leaves_tick shared_child 1 → ⊥
 unfolding digits
 left_tick h = values-apart 1 0 refl (h whole_midst (refl, (refl, (refl, (has_forms leaves_tick refl, tt))))).1.tick
+
+left_output : Restarts leaves_output shared_child 1 → ⊥
+unfolding digits
+left_output h =
+    values-apart 9 0 refl
+    (ap (λ (outputs : List ℤ). slice_index_or outputs 1 (pos 0))
+    (h whole_midst (refl, (refl, (refl, (has_forms leaves_output refl, tt))))).1.outputs)

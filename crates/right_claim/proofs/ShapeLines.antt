@@ -26,7 +26,6 @@ use Rattle.emit_shape.specs.NamedLeaf.{NamedLeaf, param, own, child}
 use Rattle.emit_shape.specs.Names.{value_name, port_name, start_name, reset_name, update_name, group_name, now_name, root_name}
 use Rattle.c_syntax.specs.Outputs.{output_name}
 use Rattle.modules_profile.specs.Headers.{header_of}
-use Rattle.emit_shape.specs.Heads as heads
 use Rattle.emit_shape.specs.Heads.{Head, head_of, out_heads, public_heads}
 use Rattle.emit_shape.specs.CodeNames.{CodeNames, named_fields, named_leaves, IsReadOf}
 use Rattle.emit_shape.specs.Reads.{StoreSite, IndexSite, CallSite, stmt_stores, stores_in, stmt_tests, tests_in, stmt_calls, calls_in, stmt_indices, indices_in, expr_leaves, cond_leaves, cond_indices}
@@ -37,7 +36,7 @@ use Rattle.emit_shape.specs.Stored.{stored_on, stored_in, stored_names, has_stor
 use Rattle.emit_shape.specs.Slots.{counters_in}
 use Rattle.emit_shape.specs.Programs.{procedure_at, no_procedure, field_in, no_field, kind_fields, names_in, procedures_of, struct_place}
 use Rattle.emit_shape.specs.Faces.{out_places, stores, takes, HasLeastInterface}
-use Rattle.emit_shape.specs.RootCode.{RootStep, calls, copies, moves_on, tick_steps, IsPassed, MovesOn, DoesCall, DoesStore, Does, is_literal_store, BeginsTick, root_fields_of, HasRootCode}
+use Rattle.emit_shape.specs.RootCode.{RootStep, calls, copies, moves_on, start_steps, tick_steps, IsPassed, MovesOn, DoesCall, DoesStore, Does, is_literal_store, BeginsTick, root_fields_of, HasRootCode}
 use Rattle.emit_shape.specs.ProgramShape.{viewed, HasSystemShape, HasShape}
 use Rattle.right_claim.specs.Anew.{RenewsAll}
 use Rattle.right_claim.specs.Right.{AnswersAnyOrder}
@@ -702,7 +701,7 @@ module _ (p q : ProgramTree) (same : without_lines p ≡ without_lines q) (hyper
             zip-stmt (Does p hyper h.start) (Does q hyper two.one)
             (λ step a b e one. does-alike q hyper two.one step a b e
             (moved-step h.start two.one two.one_alike step a one))
-            (calls (heads.start_head (header_of d None h.profile)) ∷ []) _ _ others h.starts;
+            (start_steps d (header_of d None h.profile)) _ _ others h.starts;
         does = zip-stmt (Does p hyper h.step) (Does q hyper two.other)
             (λ step a b e one. does-alike q hyper two.other step a b e
             (moved-step h.step two.other two.other_alike step a one)) (tick_steps d (header_of d None h.profile)) _ _

@@ -260,7 +260,7 @@ module _ (inner_is : IsProfileOf shared_child (Some 2) inner_profile) (outer_is 
     step_head = refl;
     begins = lit< tt;
     tick_alone = ((refl, refl), tt);
-    starts = ((refl, refl, tt), tt);
+    starts = ((refl, refl, tt), ((refl, (Child 3 3, refl, refl)), ((refl, (Child 3 4, refl, refl)), tt)));
     does = (
       (refl, refl, ((_, tick refl, (Own 0, refl, refl)), ((_, input, (Param 0, refl, refl)), tt))),
       (

@@ -65,7 +65,7 @@ still h = by (two-orders h.start h.step (procedures_of still_tick (root_struct s
         (list_of_stmts (procedure_at still_tick 14).body) does in
         apart 2 3 refl (ap (λ (name : List ℕ). length name) moves.0)
 
--- the start of the other has one statement, a call
+-- the start of the other stores no written number
 left : HasRootCode leaves_tick shared_child 1 → ⊥
 unfolding digits
 left h = by (two-orders h.start h.step (procedures_of leaves_tick (root_struct leaves_tick)) h.only)

@@ -230,10 +230,10 @@ Steps before after row = step_run whole_program [] before
 pub starts : start_run whole_program
     ≡ done (record {
       cells = started;
-      steps = 10;
+      steps = 11;
       log = [];
       stores = at_top 0 ∷ at_top 2 ∷ in_child 0 ∷ in_child 1
-          ∷ in_child 2 ∷ in_child 3 ∷ in_child 4 ∷ at_root 0 ∷ [];
+          ∷ in_child 2 ∷ in_child 3 ∷ in_child 4 ∷ at_root 1 ∷ at_root 0 ∷ [];
     })
 unfolding digits
 starts = refl

@@ -200,7 +200,7 @@ root_code = record {
   step_head = refl;
   begins = lit< tt;
   tick_alone = ((refl, refl), tt);
-  starts = ((refl, refl, tt), tt);
+  starts = ((refl, refl, tt), ((refl, (Child 2 0, refl, refl)), tt));
   does = (
     (refl, refl, ((_, tick refl, (Own 0, refl, refl)), tt)),
     (

@@ -2,7 +2,7 @@
 -- system inside it, whatever numbers of their types they held, and what they answer from then on.
 use Rattle.std.specs.Prelude.{◌≡◌, ◌⊎◌, ℕ, ◌+◌, ◌≤◌, true, [], map, slice_index_or, unwrap_or, Option, Some, None, pos}
 use Rattle.std.specs.List.{AllByRecursion}
-use Rattle.diagram_meaning.specs.Rows.{system_control, is_triggered}
+use Rattle.diagram_meaning.specs.Rows.{outports_of, system_control, is_triggered}
 use Rattle.diagram_meaning.specs.Diagram.{Diagram}
 use Rattle.diagram_meaning.specs.Run.{start_of}
 use Rattle.modules_profile.specs.Systems.{systems, systems_inside, system_name}
@@ -87,8 +87,9 @@ pub record RenewsAll (p : ProgramTree) (d : Diagram) (hyper : ℕ) (s : Option �
   pub resets : FromAnyFields p (struct_place p s) (procedure_place p (reset_name s))
       (HoldsInside p d s (AreReset p d))
 
--- The fields of `root` after `root_start`: the tick is 0, `top` is started, outputs are as they
--- were; each trace is answered by its run, and in each system each lawful script.
+-- The fields of `root` after `root_start`: the tick is 0, `top` is started, and each output is what
+-- its Outport is before the first tick; each trace is answered by its run, and in each system each
+-- lawful script.
 pub record AreRestarted (p : ProgramTree) (d : Diagram) (hyper : ℕ)
     (before after : Cells) : Type 0 where
   pub tick : number_at after (field_position (root_fields p) now_name) ≡ pos 0
@@ -96,7 +97,7 @@ pub record AreRestarted (p : ProgramTree) (d : Diagram) (hyper : ℕ)
       (fields_at before (field_position (root_fields p) (system_name None)))
       (fields_at after (field_position (root_fields p) (system_name None)))
   pub outputs : map (number_at after) (output_fields (root_fields p))
-      ≡ map (number_at before) (output_fields (root_fields p))
+      ≡ map (start_of d) (outports_of d.rows None)
   pub traces : TakesTraces p d after
   pub scripts : AllByRecursion (λ s. AnswersScripts p d hyper (path_to p d.rows s) s after)
       (systems d.rows)

@@ -184,9 +184,9 @@ stores_values =
     (inner_procedure (codes "top_reset") [] (zeros (0 ∷ 1 ∷ 2 ∷ 3 ∷ 4 ∷ [])
     ++ call 0 11 (OnChild 5) no_exprs ∷ []))
 
--- `root_start` starts `top`, and leaves the tick
-abbrev pub leaves_tick : ProgramTree
-leaves_tick = record {
+-- `root_start` starts `top`, and then does these
+abbrev with_start : List StmtTree → ProgramTree
+with_start more = record {
   pures = shared_program.pures;
   structs = shared_program.structs;
   procedures =
@@ -196,9 +196,17 @@ leaves_tick = record {
         private = false;
         of = 2;
         params = [];
-        body = stmts_of_list (call 0 11 (OnChild 3) no_exprs ∷ []);
+        body = stmts_of_list (call 0 11 (OnChild 3) no_exprs ∷ more);
       });
 }
+
+-- it copies both outputs, and leaves the tick
+abbrev pub leaves_tick : ProgramTree
+leaves_tick = with_start (assign 0 1 (read (Child 3 3)) ∷ assign 0 2 (read (Child 3 4)) ∷ [])
+
+-- it copies the first output, and leaves the second
+abbrev pub leaves_output : ProgramTree
+leaves_output = with_start (assign 0 1 (read (Child 3 3)) ∷ assign 0 0 (literal (pos 0)) ∷ [])
 
 -- ---- The model's run over a trace
 

@@ -1,14 +1,16 @@
 -- The shape of a program that is fused.
 use Rattle.std.specs.Prelude.{◌≡◌, ℕ, zero, suc, ◌+◌, ◌<◌, ◌==◌, ◌%◌, not, Bool, true, false, cond, ⊤, List, [], ◌∷◌, map, filter, length, slice_index_or, IsPermutation, Option, None, pos, neg_ℤ}
-use Rattle.std.specs.List.{AllByRecursion, AllZip}
+use Rattle.std.specs.List.{AllByRecursion, AllZip, enumerate_from}
 use Rattle.std.proofs.Common.{refl, sym, ap, subst, ◌∙◌}
 use Rattle.std.proofs.lemmas.List.{length-map}
 use Rattle.std.proofs.lemmas.List.Sorted.{IsPermutation-map}
 use Rattle.std.proofs.lemmas.Simd.{map-map}
 use Rattle.diagram_meaning.specs.Diagram.{Diagram}
+use Rattle.diagram_meaning.specs.Rows.{outports_of}
 use Rattle.modules_profile.specs.Systems.{systems, system_name}
 use Rattle.modules_profile.specs.Locals.{own_header}
 use Rattle.modules_profile.specs.Headers.{header_of}
+use Rattle.modules_profile.specs.SystemHeader.{SystemHeader}
 use Rattle.c_syntax.specs.declared.code.Target.TheVariants.{Child}
 use Rattle.c_syntax.specs.Tree.{ExprTree, literal, neg, StmtTree, assign, assign_at, branch, call, StmtTrees, no_stmts, more_stmts, list_of_stmts, list_of_exprs, ParamTree, ProcedureTree, ProgramTree}
 use Rattle.c_syntax.specs.RootFields.{root_struct}
@@ -24,7 +26,7 @@ use Rattle.emit_shape.specs.Once.{StatesOnce}
 use Rattle.emit_shape.specs.Used.{AreUsed}
 use Rattle.emit_shape.specs.Slots.{counters_in}
 use Rattle.emit_shape.specs.Programs.{procedure_at, no_procedure, names_in, procedures_of, struct_place, struct_at}
-use Rattle.emit_shape.specs.RootCode.{RootStep, calls, copies, moves_on, IsPassed, MovesOn, DoesCall, DoesStore, Does, root_fields_of, is_literal, is_literal_store, literal_number, BeginsTick, tick_steps, HasRootCode}
+use Rattle.emit_shape.specs.RootCode.{RootStep, calls, copies, moves_on, IsPassed, MovesOn, DoesCall, DoesStore, Does, root_fields_of, is_literal, is_literal_store, literal_number, BeginsTick, start_steps, tick_steps, HasRootCode}
 use Rattle.emit_shape.specs.ProgramShape.{viewed, HasSystemShape, HasShape}
 use Rattle.emit_pruned.proofs.lemmas.Numbers.{each-then}
 use Rattle.emit_fused.specs.Simplified.{simplified_expr}
@@ -209,10 +211,26 @@ module _ (p : ProgramTree) where
     call-straight callee (assign_at line f index value) h = absurd h
     call-straight callee (branch line test on_true on_false) h = absurd h
 
-    one-call : (callee : Head) (xs : List StmtTree) → AllZip (Does p hyper x) (calls callee ∷ []) xs → AllByRecursion IsStraight xs
-    one-call callee [] h = absurd h
-    one-call callee (a ∷ []) h = (call-straight callee a h.0, tt)
-    one-call callee (a ∷ b ∷ xs) h = absurd h.1
+    copy-straight : (output row : ℕ) (a : StmtTree) → Does p hyper x (copies output row) a → IsStraight a
+    copy-straight output row (assign line f value) h = (tt, ap (λ e. is_literal (simplified_expr e)) h.1.1 ∙ sym (ap is_literal h.1.1))
+    copy-straight output row (call line k target values) h = absurd h
+    copy-straight output row (assign_at line f index value) h = absurd h
+    copy-straight output row (branch line test on_true on_false) h = absurd h
+
+    copies-straight : (os : List (ℕ × ℕ)) (xs : List StmtTree) →
+        AllZip (Does p hyper x) (map (λ (o : ℕ × ℕ). copies o.0 o.1) os) xs → AllByRecursion IsStraight xs
+    copies-straight [] [] h = tt
+    copies-straight [] (a ∷ xs) h = absurd h
+    copies-straight (o ∷ os) [] h = absurd h
+    copies-straight (o ∷ os) (a ∷ xs) h = (copy-straight o.0 o.1 a h.0, copies-straight os xs h.1)
+
+    start-straight : (d : Diagram) (top : SystemHeader) (xs : List StmtTree) → AllZip (Does p hyper x) (start_steps d top) xs →
+        AllByRecursion IsStraight xs
+    start-straight d top [] h = absurd h
+    start-straight d top (a ∷ xs) h = (
+      call-straight (heads.start_head top) a h.0,
+      copies-straight (enumerate_from 1 (outports_of d.rows None)) xs h.1,
+    )
 
     store-plain : (name : List ℕ) (P : ExprTree → Type 0) (a : StmtTree) → DoesStore p hyper x name P a → IsPlain a
     store-plain name P (assign line f value) h = tt
@@ -246,7 +264,7 @@ module _ (p : ProgramTree) where
       let stmts = list_of_stmts h.start.body in
       let others = filter (λ a. not (is_literal_store a)) stmts in
       let straight = each-by IsStraight is_literal_store stmts literal-straight
-      (one-call hyper h.start (heads.start_head top) others h.starts) in record {
+      (start-straight hyper h.start d top others h.starts) in record {
         profile = h.profile;
         is_profile = h.is_profile;
         name = h.name;
@@ -265,10 +283,10 @@ module _ (p : ProgramTree) where
         tick_alone = subst (AllByRecursion (BeginsTick r (fused_procedure h.start))) (sym (kept-fused (λ t. t) h.start.body straight))
             (begins-fused hyper h.start stmts h.tick_alone);
         starts =
-            subst (AllZip (Does r hyper (fused_procedure h.start)) (calls (heads.start_head top) ∷ []))
+            subst (AllZip (Does r hyper (fused_procedure h.start)) (start_steps d top))
             (sym (kept-fused not h.start.body straight))
             (zip-map fused_stmt (Does p hyper h.start) (Does r hyper (fused_procedure h.start))
-            (λ step a one. does-alike hyper h.start step a one) (calls (heads.start_head top) ∷ []) others h.starts);
+            (λ step a one. does-alike hyper h.start step a one) (start_steps d top) others h.starts);
         does = subst (AllZip (Does r hyper (fused_procedure h.step)) (tick_steps d top))
             (sym (plain-list h.step.body (zip-each (Does p hyper h.step) IsPlain (λ step a one. does-plain hyper h.step step a one)
             (tick_steps d top) (list_of_stmts h.step.body) h.does)))

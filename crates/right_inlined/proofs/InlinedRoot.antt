@@ -20,12 +20,11 @@ use Rattle.c_syntax.specs.RootFields.{root_struct}
 use Rattle.c_semantics.specs.Machine.{is_interface}
 use Rattle.emit_shape.specs.NamedLeaf.{NamedLeaf, own, child}
 use Rattle.emit_shape.specs.Names.{value_name, now_name}
-use Rattle.emit_shape.specs.Heads as heads
 use Rattle.emit_shape.specs.Heads.{Head}
 use Rattle.emit_shape.specs.CodeNames.{named_leaf, named_leaves, named_kind, named_fields, IsReadOf}
 use Rattle.emit_shape.specs.Reads.{expr_leaves}
 use Rattle.emit_shape.specs.Programs.{names_in, procedures_of, struct_at}
-use Rattle.emit_shape.specs.RootCode.{RootStep, calls, copies, moves_on, IsPassed, MovesOn, DoesCall, DoesStore, Does, root_fields_of, is_literal, is_literal_store, literal_number, BeginsTick, tick_steps, HasRootCode}
+use Rattle.emit_shape.specs.RootCode.{RootStep, calls, copies, moves_on, IsPassed, MovesOn, DoesCall, DoesStore, Does, root_fields_of, is_literal, is_literal_store, literal_number, BeginsTick, start_steps, tick_steps, HasRootCode}
 use Rattle.emit_pruned.proofs.lemmas.Numbers.{all-left, all-right}
 use Rattle.emit_inlined.specs.Inlined.{stmt_calls, stmts_calls, stays, place, itself, kept_from, moved_leaf, moved_expr, moved_exprs, moved_cond, moved_stmt, moved_stmts, inlined_stmts, inlined_procedure, inlined}
 use Rattle.emit_inlined.proofs.lemmas.CallCounts.{others_in, public-stays}
@@ -290,12 +289,12 @@ module _ (p : ProgramTree) where
             (each-map move (BeginsTick p h.start) (BeginsTick r start) literal_stores
             (λ a one. begins-alike hyper h.start a one) h.tick_alone);
         starts =
-            subst (AllZip (Does r hyper start) (calls (heads.start_head top) ∷ []))
+            subst (AllZip (Does r hyper start) (start_steps d top))
             (sym (kept-moved (place p) not h.start.body)
             ∙ ap (λ ss. filter (λ a. not (is_literal_store a)) (list_of_stmts ss)) (sym body_start))
             (zip-map move (λ s a. Does p hyper h.start s a × AllByRecursion (Placed p) (stmt_calls a)) (Does r hyper start)
-            (λ s a one. does-alike hyper h.start s a one) (calls (heads.start_head top) ∷ []) others
-            (zip-with (Does p hyper h.start) (λ a. AllByRecursion (Placed p) (stmt_calls a)) (calls (heads.start_head top) ∷ []) others
+            (λ s a one. does-alike hyper h.start s a one) (start_steps d top) others
+            (zip-with (Does p hyper h.start) (λ a. AllByRecursion (Placed p) (stmt_calls a)) (start_steps d top) others
             h.starts
             (each-kept (λ a. AllByRecursion (Placed p) (stmt_calls a)) (λ a. not (is_literal_store a)) stmts
             (own-calls lawful h.start start_there unlogged_start))));

@@ -1,6 +1,7 @@
 -- The struct `root` of a program that is put together, after its start and in its ticks.
 use Rattle.std.specs.Prelude.{◌≡◌, ℕ, suc, ◌%◌, ◌<◌, ◌≤◌, ⊤, List, [], ◌∷◌, map, length, slice_index_or, Option, None, unwrap_or, ℤ, pos}
 use Rattle.std.specs.List.{AllByRecursion}
+use Rattle.diagram_meaning.specs.Rows.{outports_of}
 use Rattle.diagram_meaning.specs.Run.{outs}
 use Rattle.diagram_meaning.specs.Laws.{Run, IsRunOver}
 use Rattle.diagram_meaning.specs.Traces.{IsTrace}
@@ -11,16 +12,17 @@ use Rattle.c_semantics.specs.Cells.{Cells, number_at, fields_at, cells_at}
 use Rattle.c_semantics.specs.CellLaws.{cells_count}
 use Rattle.c_semantics.specs.Machine.{After}
 use Rattle.c_semantics.specs.Rows.{step_run, tick_row}
-use Rattle.emit_shape.specs.Names.{now_name, root_start_name}
+use Rattle.emit_shape.specs.Names.{now_name, root_start_name, value_name}
 use Rattle.emit_shape.specs.Programs.{struct_place}
 use Rattle.right_relation.specs.Forms.{HasForms}
 use Rattle.right_relation.specs.Instances.{none_called, OnDone}
 use Rattle.right_relation.specs.Budgets.{step_bound}
 use Rattle.right_relation.specs.Renewals.{Renewal}
-use Rattle.right_claim.specs.Paths.{path_to}
+use Rattle.right_claim.specs.Paths.{path_to, number_in}
 use Rattle.right_claim.specs.Calls.{CallsInTick}
 use Rattle.right_claim.specs.Anew.{forms_at, FromAnyFields}
 use Rattle.right_linking.specs.Parts.{Parts, program_of, diagram, all_systems, Views}
+use Rattle.right_linking.specs.Places.{FormsAreOfSlots}
 use Rattle.right_linking.specs.Starts.{Renewed, ReachInside}
 use Rattle.right_linking.specs.Lives.{Lives}
 
@@ -52,7 +54,8 @@ InstancesHavePaths a =
     AllByRecursion (HasInstance a cells) (all_systems a)
 
 -- What `root_start` leaves: the tick is 0, `top` is started, and so is each system inside at its
--- path; the outputs are as they were, and the fields keep their forms.
+-- path; each output is what the field of its Outport in `top` holds, and the fields keep their
+-- forms.
 pub record IsRootStarted (a : Parts) (started : Option ℕ → Renewal)
     (before after : Cells) : Type 0 where
   pub stands : IsRootAt (program_of a) a.hyper 0
@@ -62,7 +65,8 @@ pub record IsRootStarted (a : Parts) (started : Option ℕ → Renewal)
       ≡ (started s).renewed (cells_at (path_to (program_of a) (diagram a).rows s) before))
       (all_systems a)
   pub outputs : map (number_at after) (output_fields (root_fields (program_of a)))
-      ≡ map (number_at before) (output_fields (root_fields (program_of a)))
+      ≡ map (λ b. number_in (program_of a) None (fields_at after (top_place (program_of a)))
+      (value_name b)) (outports_of (diagram a).rows None)
   pub keeps : HasForms (forms_at (program_of a) (root_struct (program_of a))) after
 
 -- so it does from any fields of the root's struct
@@ -94,10 +98,11 @@ RootTakesTicks a v renewed = (xs : List (List ℤ)) (run : Run) (before : Cells)
     OnDone (step_run (program_of a) (slice_index_or xs t []) cells)
     (TakesTick a xs run t (lives.at t).after)
 
--- Given that a start reaches all systems inside, and each instance has its path.
+-- Given what the fields of systems hold, that a start reaches all systems inside, and that each
+-- instance has its path.
 abbrev pub RootsStart : Type 0
-RootsStart = (a : Parts) (v : Views a) (renewed : Renewed a v) → ReachInside a renewed.started →
-    InstancesHavePaths a → RootStarts a v renewed
+RootsStart = FormsAreOfSlots → (a : Parts) (v : Views a) (renewed : Renewed a v) →
+    ReachInside a renewed.started → InstancesHavePaths a → RootStarts a v renewed
 
 abbrev pub RootsTakeTicks : Type 0
 RootsTakeTicks = (a : Parts) (v : Views a) (renewed : Renewed a v) → RootTakesTicks a v renewed

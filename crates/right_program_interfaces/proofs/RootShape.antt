@@ -1,6 +1,6 @@
 -- The root of an assembled program has a struct and two procedures of its own.
-use Rattle.std.specs.Prelude.{◌≡◌, ℕ, suc, false, ◌+◌, ◌%◌, ◌/◌, ◌<◌, ◌≤◌, ◌^◌, List, [], ◌∷◌, ◌++◌, map, length, slice_get, slice_index_or, Contains, IsPermutation, Some, None, pos, int_div, unsigned_abs, codes as text, bytes_eq, refl}
-use Rattle.std.specs.List.{AllZip, enumerate_from, range_with_len}
+use Rattle.std.specs.Prelude.{◌≡◌, ℕ, suc, not, false, ◌+◌, ◌%◌, ◌/◌, ◌<◌, ◌≤◌, ◌^◌, List, [], ◌∷◌, ◌++◌, map, filter, length, slice_get, slice_index_or, Contains, IsPermutation, Some, None, pos, int_div, unsigned_abs, codes as text, bytes_eq, refl}
+use Rattle.std.specs.List.{AllByRecursion, AllZip, enumerate_from, range_with_len}
 use Rattle.std.proofs.Common.{sym, ap, ap₂, subst, ◌∙◌, arith}
 use Rattle.std.proofs.lemmas.List.{map-append}
 use Rattle.std.proofs.lemmas.List.Elements.{Contains-append_left, Contains-append_right}
@@ -21,7 +21,7 @@ use Rattle.emit_shape.specs.Heads.{Head, input_params, public_heads, out_head, o
 use Rattle.emit_shape.specs.NamedLeaf.{own, child}
 use Rattle.emit_shape.specs.Names.{now_name, root_step_name}
 use Rattle.emit_shape.specs.Programs.{struct_at, no_procedure, procedures_of}
-use Rattle.emit_shape.specs.RootCode.{RootStep, calls, copies, moves_on, MovesOn, Does, tick_steps, HasRootCode}
+use Rattle.emit_shape.specs.RootCode.{RootStep, calls, copies, moves_on, MovesOn, Does, is_literal_store, BeginsTick, copied_outputs, start_steps, tick_steps, HasRootCode}
 use Rattle.emit_shape.specs.Slots.{value}
 use Rattle.emit_shape.specs.SystemTree.{SystemTree}
 use Rattle.emit_shape.specs.Assembled.{code_at, out_names, call_top, root_procedures}
@@ -105,6 +105,9 @@ module _ (places : SystemsHavePlaces) (root_places : RootHasPlaces) (headers : H
   abbrev copying : ℕ × ℕ → StmtTree
   copying e = assign 0 (e.0 + 1) (read (Child (many + 1) e.1))
 
+  abbrev copied : List StmtTree
+  copied = map copying (enumerate_from 0 (code_at a.codes 0).outputs)
+
   abbrev moving : StmtTree
   moving = assign 0 0 (binary Rem (binary Add (read (Own 0)) (literal (pos 1))) (literal (pos a.hyper)))
 
@@ -118,15 +121,13 @@ module _ (places : SystemsHavePlaces) (root_places : RootHasPlaces) (headers : H
   top-code = code-is a 0 None (v.at None) (v.each 0 None refl)
 
   body-is : list_of_stmts step.body
-      ≡ (map calling (out_names (code_at a.codes 0)) ++ (calling (named (text "_update")) ∷ map copying
-      (enumerate_from 0 (code_at a.codes 0).outputs))) ++ (moving ∷ [])
+      ≡ (map calling (out_names (code_at a.codes 0)) ++ (calling (named (text "_update")) ∷ copied)) ++ (moving ∷ [])
   body-is =
-      list-of (map calling (out_names (code_at a.codes 0) ++ (named (text "_update") ∷ [])) ++ map copying
-      (enumerate_from 0 (code_at a.codes 0).outputs) ++ (moving ∷ []))
-      ∙ ap (λ xs. (xs ++ map copying (enumerate_from 0 (code_at a.codes 0).outputs)) ++ (moving ∷ []))
+      list-of (map calling (out_names (code_at a.codes 0) ++ (named (text "_update") ∷ [])) ++ copied ++ (moving ∷ []))
+      ∙ ap (λ xs. (xs ++ copied) ++ (moving ∷ []))
       (map-append calling (out_names (code_at a.codes 0)) (named (text "_update") ∷ []))
       ∙ ap (λ xs. xs ++ (moving ∷ [])) (append-append (map calling (out_names (code_at a.codes 0)))
-      (calling (named (text "_update")) ∷ []) (map copying (enumerate_from 0 (code_at a.codes 0).outputs)))
+      (calling (named (text "_update")) ∷ []) copied)
 
   names-are : out_names (code_at a.codes 0) ≡ map (λ (h : Head). h.name) (out_heads top)
   names-are =
@@ -146,32 +147,63 @@ module _ (places : SystemsHavePlaces) (root_places : RootHasPlaces) (headers : H
       Contains (map (λ (q : ParamTree). q.name) params) w.name) made.2
       (taken-there places root_places headers a v made.0))))
 
+  -- a procedure, as one of the root's
+  abbrev of_root : ProcedureTree → ProcedureTree
+  of_root q = record { name = q.name; private = q.private; of = length a.codes; params = q.params; body = q.body }
+
   -- each output is copied
-  outputs-copied : (n : ℕ) (cs ks : List ℕ) → ((k b : ℕ) → slice_get cs k ≡ Some b → slice_get ports (n + k) ≡ Some b) →
+  outputs-copied : (q : ProcedureTree) (n : ℕ) (cs ks : List ℕ) → ((k b : ℕ) → slice_get cs k ≡ Some b → slice_get ports (n + k) ≡ Some b) →
       AllZip (λ (r : LocalRow) k. slice_get (v.at None).slots k ≡ Some (value r)) (map (made_row places root_places a v) cs) ks →
-      AllZip DoesStep (map (λ (o : ℕ × ℕ). copies o.0 o.1) (enumerate_from (n + 1) cs)) (map copying (enumerate_from n ks))
-  outputs-copied n [] [] within all = tt
-  outputs-copied n [] (k ∷ ks) within all = absurd all
-  outputs-copied n (c ∷ cs) [] within all = absurd all
-  outputs-copied n (c ∷ cs) (k ∷ ks) within all =
+      AllZip (Does (program_of a) a.hyper (of_root q)) (map (λ (o : ℕ × ℕ). copies o.0 o.1) (enumerate_from (n + 1) cs))
+      (map copying (enumerate_from n ks))
+  outputs-copied q n [] [] within all = tt
+  outputs-copied q n [] (k ∷ ks) within all = absurd all
+  outputs-copied q n (c ∷ cs) [] within all = absurd all
+  outputs-copied q n (c ∷ cs) (k ∷ ks) within all =
       let none_more : n + 0 ≡ n = omega arith in (
         (
           own-out places root_places a v n c (ap (slice_get ports) (sym none_more) ∙ within 0 c refl),
           (Child (many + 1) k, refl, ap₂ child (own-top places root_places a v) (value-top places root_places a v k c all.0)),
         ),
-        outputs-copied (n + 1) cs ks (λ i b at. (let next : n + 1 + i ≡ n + suc i = omega arith in ap (slice_get ports) next)
+        outputs-copied q (n + 1) cs ks (λ i b at. (let next : n + 1 + i ≡ n + suc i = omega arith in ap (slice_get ports) next)
             ∙ within (suc i) b at) all.1,
       )
 
-  all-copied : AllZip DoesStep (map (λ (o : ℕ × ℕ). copies o.0 o.1) (enumerate_from 1 ports))
-      (map copying (enumerate_from 0 (code_at a.codes 0).outputs))
-  all-copied =
-      subst (λ ks. AllZip DoesStep (map (λ (o : ℕ × ℕ). copies o.0 o.1) (enumerate_from 1 ports)) (map copying (enumerate_from 0 ks)))
+  all-copied : (q : ProcedureTree) → AllZip (Does (program_of a) a.hyper (of_root q)) (copied_outputs (diagram a)) copied
+  all-copied q =
+      subst (λ ks. AllZip (Does (program_of a) a.hyper (of_root q)) (copied_outputs (diagram a)) (map copying (enumerate_from 0 ks)))
       (ap (λ (z : SystemTree). z.outputs) (sym top-code))
-      (outputs-copied 0 ports (v.at None).code.outputs
+      (outputs-copied q 0 ports (v.at None).code.outputs
       (λ k b at. (let none_more : 0 + k ≡ k = omega arith in ap (slice_get ports) none_more) ∙ at)
       (subst (λ rs. AllZip (λ (r : LocalRow) k. slice_get (v.at None).slots k ≡ Some (value r)) rs (v.at None).code.outputs)
       (top-outs places root_places a v) (v.each 0 None refl).shape.places))
+
+  -- ---- The statements of a start
+
+  abbrev starting : StmtTree
+  starting = call_top a.codes [] many (named (text "_start"))
+
+  abbrev beginning : StmtTree
+  beginning = assign 0 0 (literal (pos 0))
+
+  tick-first : (es : List (ℕ × ℕ)) → filter is_literal_store (map copying es ++ (beginning ∷ [])) ≡ beginning ∷ []
+  tick-first [] = refl
+  tick-first (e ∷ es) = tick-first es
+
+  copies-first : (es : List (ℕ × ℕ)) → filter (λ st. not (is_literal_store st)) (map copying es ++ (beginning ∷ [])) ≡ map copying es
+  copies-first [] = refl
+  copies-first (e ∷ es) = ap (λ more. copying e ∷ more) (copies-first es)
+
+  start-is : list_of_stmts start.body ≡ starting ∷ (copied ++ (beginning ∷ []))
+  start-is = list-of (starting ∷ (copied ++ (beginning ∷ [])))
+
+  one-number : filter is_literal_store (list_of_stmts start.body) ≡ beginning ∷ []
+  one-number = ap (filter is_literal_store) start-is ∙ tick-first (enumerate_from 0 (code_at a.codes 0).outputs)
+
+  the-rest : filter (λ st. not (is_literal_store st)) (list_of_stmts start.body) ≡ starting ∷ copied
+  the-rest =
+      ap (filter (λ st. not (is_literal_store st))) start-is
+      ∙ ap (λ more. starting ∷ more) (copies-first (enumerate_from 0 (code_at a.codes 0).outputs))
 
   moved-on : MovesOn (program_of a) a.hyper step (binary Rem (binary Add (read (Own 0)) (literal (pos 1))) (literal (pos a.hyper)))
   moved-on =
@@ -198,26 +230,23 @@ module _ (places : SystemsHavePlaces) (root_places : RootHasPlaces) (headers : H
             (record { moves = []; below = tt; is = refl });
         start_head = refl;
         step_head = ap (λ ps. record { name = root_step_name; private = false; params = ps }) (params-same places root_places headers a v);
-        begins = omega arith;
-        tick_alone = ((own-now places root_places a v, refl), tt);
-        starts = (
+        begins = subst (λ n. 0 < n) (sym (ap length one-number)) (omega arith);
+        tick_alone = subst (AllByRecursion (BeginsTick (program_of a) start)) (sym one-number) ((own-now places root_places a v, refl), tt);
+        starts = subst (AllZip (Does (program_of a) a.hyper start) (start_steps (diagram a) top)) (sym the-rest) (
           call-does places root_places headers a v [] (start_head top) (named (text "_start")) start-known (top-named (text "_start"))
               (λ w has other. absurd (in-none w has)),
-          tt,
+          all-copied start,
         );
         does = subst (AllZip DoesStep (tick_steps (diagram a) top)) (sym body-is)
-            (zip-append DoesStep (map calls (out_heads top) ++ (calls (update_head top) ∷ map (λ (o : ℕ × ℕ). copies o.0 o.1)
-            (enumerate_from 1 ports)))
-            (map calling (out_names (code_at a.codes 0)) ++ (calling (named (text "_update")) ∷ map copying
-            (enumerate_from 0 (code_at a.codes 0).outputs))) (moves_on ∷ []) (moving ∷ [])
+            (zip-append DoesStep (map calls (out_heads top) ++ (calls (update_head top) ∷ copied_outputs (diagram a)))
+            (map calling (out_names (code_at a.codes 0)) ++ (calling (named (text "_update")) ∷ copied)) (moves_on ∷ []) (moving ∷ [])
             (zip-append DoesStep (map calls (out_heads top)) (map calling (out_names (code_at a.codes 0)))
-            (calls (update_head top) ∷ map (λ (o : ℕ × ℕ). copies o.0 o.1) (enumerate_from 1 ports))
-            (calling (named (text "_update")) ∷ map copying (enumerate_from 0 (code_at a.codes 0).outputs))
+            (calls (update_head top) ∷ copied_outputs (diagram a)) (calling (named (text "_update")) ∷ copied)
             functions-called (
               call-does places root_places headers a v params (update_head top) (named (text "_update")) update-known
                   (top-named (text "_update"))
                   (input-there places root_places headers a v (input_params top) (λ w has. has)),
-              all-copied,
+              all-copied step,
             ))
             ((own-now places root_places a v, moved-on), tt));
       }

@@ -1,7 +1,7 @@
 -- The rows of the root by their ports: each is at its own, and there are at most 32.
-use Rattle.std.specs.Prelude.{◌≡◌, ℕ, suc, ◌+◌, ◌≤◌, Bool, List, [], ◌∷◌, map, length, Option, refl}
+use Rattle.std.specs.Prelude.{◌≡◌, ℕ, suc, ◌+◌, ◌≤◌, Bool, List, [], ◌∷◌, map, length, slice_get, Option, Some, ℤ, refl}
 use Rattle.std.specs.List.{range_with_len}
-use Rattle.std.proofs.Common.{sym, ap, ◌∙◌, arith}
+use Rattle.std.proofs.Common.{sym, ap, ap₂, ◌∙◌, arith}
 use Rattle.std.proofs.lemmas.List.Sums.{length-filter}
 use Rattle.std.proofs.lemmas.Option.{same_Some}
 use Rattle.diagram_blocks.specs.declared.Kind.{Kind}
@@ -25,6 +25,15 @@ map-map g f (x ∷ xs) = ap (λ ys. g (f x) ∷ ys) (map-map g f xs)
 pub mapped-length : {A B : Type 0} (f : A → B) (xs : List A) → length (map f xs) ≡ length xs
 mapped-length f [] = refl
 mapped-length f (x ∷ xs) = ap suc (mapped-length f xs)
+
+-- what is at each place, mapped
+pub mapped-by : {A : Type 0} (g : ℕ → ℤ) (f : A → ℤ) (k : ℕ) (xs : List A) →
+    ((j : ℕ) (x : A) → slice_get xs j ≡ Some x → g (k + j) ≡ f x) → map g (range_with_len k (length xs)) ≡ map f xs
+mapped-by g f k [] each = refl
+mapped-by g f k (x ∷ xs) each =
+    let here : k ≡ k + 0 = omega arith in
+    ap₂ (λ z zs. z ∷ zs) (ap g here ∙ each 0 x refl)
+    (mapped-by g f (k + 1) xs (λ j y at. let next : k + 1 + j ≡ k + suc j = omega arith in ap g next ∙ each (suc j) y at))
 
 module _ (d : Diagram) (delays : List Bool) (s : Option ℕ) (test : Kind → Bool) (ports : HasPorts d.rows test s) (local : LocalSystem)
     (headers : List SystemHeader)

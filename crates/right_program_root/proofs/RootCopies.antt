@@ -63,7 +63,7 @@ module _ (scope : Scope) (f : ℕ) where
   pub record Copied (k : ℕ) (places : List ℕ) (before : Cells) (steps : ℕ) (a : After) : Type 0 where
     pub count : cells_count a.cells ≡ cells_count before
     pub others : (g : ℕ) → (g ≤ k) ⊎ (k + length places < g) → cell_at a.cells g ≡ cell_at before g
-    pub copied : (j p : ℕ) → slice_get places j ≡ Some p → number_at a.cells (k + j + 1) ≡ number_at (fields_at before f) p
+    pub copied : (j p : ℕ) → slice_get places j ≡ Some p → cell_at a.cells (k + j + 1) ≡ number (number_at (fields_at before f) p)
     pub quiet : Quiet f steps a
 
   pub copies : (k : ℕ) (places : List ℕ) (cells : Cells) (steps : ℕ) → k + length places < f → f < cells_count cells →
@@ -124,14 +124,14 @@ module _ (scope : Scope) (f : ℕ) where
       by : (a b : After) → Stores f (k + 1) (number_at (fields_at cells f) p) cells (steps + 1) a →
           Copied (k + 1) places a.cells (a.steps + length places) b →
           fields_at a.cells f ≡ fields_at cells f → (j q : ℕ) → slice_get (p ∷ places) j ≡ Some q →
-          number_at b.cells (k + j + 1) ≡ number_at (fields_at cells f) q
+          cell_at b.cells (k + j + 1) ≡ number (number_at (fields_at cells f) q)
       by a b stored rest same zero q at =
           let first : k + 0 + 1 ≡ k + 1 = omega arith in
-          ap (number_at b.cells) first ∙ ap cell_value (rest.others (k + 1) (inl (omega arith))) ∙ stored.stands.here
-          ∙ ap (number_at (fields_at cells f)) (same_Some p q at)
+          ap (cell_at b.cells) first ∙ rest.others (k + 1) (inl (omega arith)) ∙ stored.stands.cell
+          ∙ ap (λ g. number (number_at (fields_at cells f) g)) (same_Some p q at)
       by a b stored rest same (suc j) q at =
           let place : k + suc j + 1 ≡ k + 1 + j + 1 = omega arith in
-          ap (number_at b.cells) place ∙ rest.copied j q at ∙ ap (λ inner. number_at inner q) same
+          ap (cell_at b.cells) place ∙ rest.copied j q at ∙ ap (λ inner. number (number_at inner q)) same
 
 -- ---- The tick
 
@@ -180,26 +180,27 @@ stmts-append (x ∷ xs) ys = ap (more_stmts x) (stmts-append xs ys)
 
 pub record OwnPart (f : ℕ) (places : List ℕ) (now : ℤ) (before : Cells) (steps : ℕ) (a : After) : Type 0 where
   pub count : cells_count a.cells ≡ cells_count before
-  pub tick : number_at a.cells 0 ≡ now
-  pub inside : fields_at a.cells f ≡ fields_at before f
-  pub copied : (j p : ℕ) → slice_get places j ≡ Some p → number_at a.cells (1 + j) ≡ number_at (fields_at before f) p
+  pub tick : cell_at a.cells 0 ≡ number now
+  pub others : (g : ℕ) → length places < g → cell_at a.cells g ≡ cell_at before g
+  pub copied : (j p : ℕ) → slice_get places j ≡ Some p → cell_at a.cells (1 + j) ≡ number (number_at (fields_at before f) p)
   pub quiet : Quiet f steps a
 
-pub own_part : (scope : Scope) (f : ℕ) (places : List ℕ) (t hyper : ℕ) (cells : Cells) (steps : ℕ) → length places < f →
+-- the copies, and the tick's number as e gives it
+pub own_part : (scope : Scope) (f : ℕ) (places : List ℕ) (e : ExprTree) (now : ℤ) (cells : Cells) (steps : ℕ) → length places < f →
     f < cells_count cells →
     ((j p : ℕ) → slice_get places j ≡ Some p → is_in_type (type_at scope.types (j + 1)) (number_at (fields_at cells f) p) ≡ true) →
-    type_at scope.types 0 ≡ I32 → 0 < hyper → hyper ≤ 2 ^ 30 → number_at cells 0 ≡ pos (t % hyper) →
-    steps + length places + 1 ≤ step_limit →
-    OnDone (run_stmts scope (stmts_of_list (map (copy scope f) (enumerate_from 0 places) ++ assign 0 0 (next_tick hyper) ∷ [])) cells steps)
-    (OwnPart f places (pos (suc t % hyper)) cells (steps + length places + 1))
-own_part scope f places t hyper cells steps before_f below fits type some short now room =
-    subst (λ o. OnDone o (OwnPart f places (pos (suc t % hyper)) cells (steps + length places + 1)))
+    ((x : Cells) → number_at x 0 ≡ number_at cells 0 → Gives scope.functions (reads scope.values x) 0 e now) →
+    is_in_type (type_at scope.types 0) now ≡ true → steps + length places + 1 ≤ step_limit →
+    OnDone (run_stmts scope (stmts_of_list (map (copy scope f) (enumerate_from 0 places) ++ assign 0 0 e ∷ [])) cells steps)
+    (OwnPart f places now cells (steps + length places + 1))
+own_part scope f places e now cells steps before_f below fits gives in_type room =
+    subst (λ o. OnDone o (OwnPart f places now cells (steps + length places + 1)))
     (sym (ap (λ ss. run_stmts scope ss cells steps)
-    (stmts-append (map (copy scope f) (enumerate_from 0 places)) (assign 0 0 (next_tick hyper) ∷ []))
+    (stmts-append (map (copy scope f) (enumerate_from 0 places)) (assign 0 0 e ∷ []))
     ∙ run_stmts-append scope (stmts_of_list (map (copy scope f) (enumerate_from 0 places)))
-    (stmts_of_list (assign 0 0 (next_tick hyper) ∷ [])) cells steps))
+    (stmts_of_list (assign 0 0 e ∷ [])) cells steps))
     (on_then (run_stmts scope (stmts_of_list (map (copy scope f) (enumerate_from 0 places))) cells steps)
-    (run_stmts scope (stmts_of_list (assign 0 0 (next_tick hyper) ∷ [])))
+    (run_stmts scope (stmts_of_list (assign 0 0 e ∷ [])))
     (Copied scope f 0 places cells (steps + length places)) _
     (copies scope f 0 places cells steps (omega (arith, before_f)) below
     (λ j p at. let place : j + 1 ≡ 0 + j + 1 = omega arith in
@@ -208,17 +209,17 @@ own_part scope f places t hyper cells steps before_f below fits type some short 
     let same : number_at a.cells 0 ≡ number_at cells 0 = ap cell_value (copied.others 0 (inl (omega arith))) in
     let late = copied.quiet.in_time in
     let more = copied.count in
-    on_behind a.log a.stores (run_stmts scope (stmts_of_list (assign 0 0 (next_tick hyper) ∷ [])) a.cells a.steps)
-    (Stores f 0 (pos (suc t % hyper)) a.cells (a.steps + 1)) _
-    (last a.cells a.steps (omega (arith, below, more)) (same ∙ now) (omega (arith, room, late)))
+    on_behind a.log a.stores (run_stmts scope (stmts_of_list (assign 0 0 e ∷ [])) a.cells a.steps)
+    (Stores f 0 now a.cells (a.steps + 1)) _
+    (last a.cells a.steps (omega (arith, below, more)) same (omega (arith, room, late)))
     (λ b stored. record {
       count = stored.stands.count ∙ copied.count;
-      tick = stored.stands.here;
-      inside = ap cell_fields (stored.stands.others f (λ e. omega (arith, e, before_f)))
-          ∙ ap cell_fields (copied.others f (inr (omega (arith, before_f))));
+      tick = stored.stands.cell;
+      others = λ g behind.
+          stored.stands.others g (λ same. omega (arith, same, behind)) ∙ copied.others g (inr (omega (arith, behind)));
       copied = λ j p at.
           let place : 1 + j ≡ 0 + j + 1 = omega arith in
-          ap cell_value (stored.stands.others (1 + j) (λ e. omega (arith, e))) ∙ ap (number_at a.cells) place ∙ copied.copied j p at;
+          stored.stands.others (1 + j) (λ same. omega (arith, same)) ∙ ap (cell_at a.cells) place ∙ copied.copied j p at;
       quiet = record {
         in_time = let end = stored.quiet.in_time in omega (arith, late, end);
         calls = ap (λ l. l ++ b.log) copied.quiet.calls ∙ stored.quiet.calls;
@@ -230,10 +231,9 @@ own_part scope f places t hyper cells steps before_f below fits type some short 
       };
     })))
   where
-    last : (x : Cells) (mid : ℕ) → 0 < cells_count x → number_at x 0 ≡ pos (t % hyper) → mid < step_limit →
-        OnDone (run_stmts scope (stmts_of_list (assign 0 0 (next_tick hyper) ∷ [])) x mid) (Stores f 0 (pos (suc t % hyper)) x (mid + 1))
-    last x mid there at less =
-        subst (λ o. OnDone o (Stores f 0 (pos (suc t % hyper)) x (mid + 1)))
-        (sym ((sequences_run_in_order scope x mid).alone (assign 0 0 (next_tick hyper))))
-        (one_store scope f 0 (next_tick hyper) (pos (suc t % hyper)) x mid there (next-gives scope x t hyper some short at)
-        (ap (λ ty. is_in_type ty (pos (suc t % hyper))) type ∙ tick-fits (suc t) hyper some short) less)
+    last : (x : Cells) (mid : ℕ) → 0 < cells_count x → number_at x 0 ≡ number_at cells 0 → mid < step_limit →
+        OnDone (run_stmts scope (stmts_of_list (assign 0 0 e ∷ [])) x mid) (Stores f 0 now x (mid + 1))
+    last x mid there same less =
+        subst (λ o. OnDone o (Stores f 0 now x (mid + 1)))
+        (sym ((sequences_run_in_order scope x mid).alone (assign 0 0 e)))
+        (one_store scope f 0 e now x mid there (gives x same) in_type less)

@@ -1,18 +1,20 @@
 -- The forms of the root's struct: those of its fields, that of `top` among them.
-use Rattle.std.specs.Prelude.{◌≡◌, ℕ, zero, suc, ◌+◌, ◌≤◌, List, [], ◌∷◌, ◌++◌, map, length, reverse, slice_get, slice_index_or, Some, None, refl}
+use Rattle.std.specs.Prelude.{◌≡◌, ℕ, zero, suc, ◌+◌, ◌≤◌, List, [], ◌∷◌, ◌++◌, map, length, reverse, slice_get, slice_index_or, true, Some, None, refl}
 use Rattle.std.specs.List.{range_with_len}
-use Rattle.std.proofs.Common.{ap, ◌∙◌, arith}
+use Rattle.std.proofs.Common.{ap, subst, ◌∙◌, arith}
 use Rattle.std.proofs.lemmas.List.{length-append, reverse-append, get_or_append_left}
 use Rattle.std.proofs.lemmas.List.FromFn.{length-range_with_len}
 use Rattle.std.proofs.lemmas.Option.{get_or_from_slice_get, same_Some, none-some}
 use Rattle.modules_profile.proofs.lemmas.Members.{at-right, at-below}
+use Rattle.c_syntax.specs.declared.CType.{CType}
 use Rattle.c_syntax.specs.RootFields.{root_struct}
 use Rattle.c_syntax.specs.Tree.{StructTree}
-use Rattle.c_semantics.specs.Cells.{Cells, no_cells, more_cells, cell_at}
+use Rattle.c_semantics.specs.Cells.{Cell, number, items, object, Cells, no_cells, more_cells, cell_value, cell_at}
 use Rattle.c_semantics.specs.CellLaws.{cells_count}
+use Rattle.c_semantics.specs.Values.{is_in_type}
 use Rattle.emit_shape.specs.Assembled.{code_at, from_last, struct_position, moved_struct, root_structure}
 use Rattle.emit_shape.specs.Programs.{struct_place}
-use Rattle.right_relation.specs.Forms.{Form, holds_instance, Forms, no_forms, more_forms, HasForm, HasForms, forms_of, field_form, struct_forms}
+use Rattle.right_relation.specs.Forms.{Form, holds_number, holds_instance, Forms, no_forms, more_forms, HasForm, HasForms, forms_of, field_form, struct_forms}
 use Rattle.right_claim.specs.Anew.{forms_at, form_fields, field_count}
 use Rattle.right_linking.specs.Parts.{Parts, program_of, Views}
 use Rattle.right_linking.specs.Places.{SystemsHavePlaces, RootHasPlaces}
@@ -29,6 +31,20 @@ pub form-of : (xs : List Form) (g : ℕ) (x : Form) → slice_get xs g ≡ Some 
 form-of [] g x at = cc at
 form-of (y ∷ xs) zero x at = cc at
 form-of (y ∷ xs) (suc g) x at = form-of xs g x at
+
+-- a cell has the form of its place
+pub has-form : (xs : List Form) (cells : Cells) (g : ℕ) (x : Form) → HasForms (forms_of xs) cells → slice_get xs g ≡ Some x →
+    HasForm x (cell_at cells g)
+has-form [] cells g x has at = absurd (none-some x at)
+has-form (y ∷ xs) no_cells g x has at = absurd has
+has-form (y ∷ xs) (more_cells c cells) zero x has at = subst (λ form. HasForm form c) (same_Some y x at) has.0
+has-form (y ∷ xs) (more_cells c cells) (suc g) x has at = has-form xs cells g x has.1 at
+
+-- a number fits its type
+pub number-fits : (type : CType) (cell : Cell) → HasForm (holds_number type) cell → is_in_type type (cell_value cell) ≡ true
+number-fits type (number z) has = has
+number-fits type (items vs) has = absurd has
+number-fits type (object cells) has = absurd has
 
 pub count-forms : (xs : List Form) (cells : Cells) → HasForms (forms_of xs) cells → cells_count cells ≡ length xs
 count-forms [] no_cells has = refl

@@ -1,14 +1,16 @@
--- The root's start: it starts `top`, and sets the number of the tick to 0.
-use Rattle.std.specs.Prelude.{◌≡◌, ◌≢◌, ℕ, zero, suc, ◌+◌, ◌<◌, ◌≤◌, ◌&&◌, List, [], ◌∷◌, ◌++◌, map, length, slice_get, slice_index_or, Contains, Option, Some, None, unwrap_or, codes as text, pos, refl}
-use Rattle.std.specs.List.{range_with_len}
+-- The root's start: it starts `top`, copies the outputs, and sets the number of the tick to 0.
+use Rattle.std.specs.Prelude.{◌≡◌, ◌≢◌, ℕ, zero, suc, true, ◌+◌, ◌<◌, ◌≤◌, ◌&&◌, List, [], ◌∷◌, ◌++◌, map, length, slice_get, slice_index_or, Contains, Option, Some, None, unwrap_or, codes as text, ℤ, pos, refl}
+use Rattle.std.specs.List.{enumerate_from}
 use Rattle.std.proofs.Common.{sym, ap, ap₂, subst, ◌∙◌, arith, inl, inr}
 use Rattle.std.proofs.Math.Nat.{zero-mod}
-use Rattle.std.proofs.lemmas.Bool.Decides.{eqb_tells}
+use Rattle.std.proofs.lemmas.Bool.{cases_lt}
 use Rattle.std.proofs.lemmas.Option.{same_Some, none-some}
 use Rattle.diagram_meaning.specs.Rows.{row_at, row_numbers, is_inside}
 use Rattle.diagram_blocks.specs.Kinds.{is_subsystem}
+use Rattle.modules_profile.specs.declared.ChildUse.{ChildUse}
+use Rattle.modules_profile.specs.declared.LocalRow.{LocalRow}
 use Rattle.modules_profile.specs.Systems.{systems_inside}
-use Rattle.modules_profile.proofs.lemmas.Members.{in-first, in-cases, of-map, of-filter, of-range, at-map, at-right}
+use Rattle.modules_profile.proofs.lemmas.Members.{in-first, in-cases, of-map, of-filter, of-range, at-map, at-left, at-right, at-below, below-at}
 use Rattle.c_syntax.specs.declared.CType.TheVariants.{I32}
 use Rattle.c_syntax.specs.declared.Target.TheVariants.{Child}
 use Rattle.c_syntax.specs.RootFields.{procedure_named, root_struct}
@@ -20,19 +22,20 @@ use Rattle.c_semantics.specs.Machine.{After, Outcome, done, stuck, in_child, Sco
 use Rattle.c_semantics.specs.NumberingLaws.{ProceduresStandInOrder}
 use Rattle.c_semantics.proofs.lemmas.CellLaws.{fields_are_set}
 use Rattle.c_semantics.proofs.lemmas.CallLaws.{child_calls_stay_inside}
-use Rattle.c_semantics.proofs.lemmas.RunLaws.{sequences_run_in_order}
 use Rattle.c_semantics.proofs.lemmas.WithoutSteps.{gives_literal}
-use Rattle.emit_shape.specs.Names.{start_name, root_start_name}
+use Rattle.emit_shape.specs.Names.{container, value_name, start_name, root_start_name}
 use Rattle.emit_shape.specs.Heads.{start_head}
 use Rattle.emit_shape.specs.Programs.{no_procedure, procedure_place, struct_place}
-use Rattle.emit_shape.specs.Assembled.{first_procedure, struct_position, call_top, root_value, root_structure, root_procedures}
+use Rattle.emit_shape.specs.Slots.{value}
+use Rattle.emit_shape.specs.SystemTree.{SystemTree}
+use Rattle.emit_shape.specs.Assembled.{code_at, first_procedure, struct_position, call_top, root_value, root_structure, root_procedures}
 use Rattle.right_relation.specs.BudgetLaws.{BudgetsSumToBound}
-use Rattle.right_relation.specs.Forms.{Form, Forms, no_forms, HasForm, HasForms, holds_number, holds_instance, forms_of, field_form}
+use Rattle.right_relation.specs.Forms.{Form, Forms, no_forms, HasForm, HasForms, holds_number, holds_instance, forms_of, field_form, slot_form}
 use Rattle.right_relation.specs.Instances.{OnDone}
-use Rattle.right_claim.specs.Paths.{path_to, path_inside}
+use Rattle.right_claim.specs.Paths.{place_in, number_in, path_to, path_inside}
 use Rattle.right_claim.specs.Anew.{field_count, forms_at}
 use Rattle.right_linking.specs.Parts.{Parts, program_of, diagram, all_systems, Views}
-use Rattle.right_linking.specs.Places.{SystemsHavePlaces, RootHasPlaces}
+use Rattle.right_linking.specs.Places.{SystemsHavePlaces, FieldsAreFound, RootHasPlaces, FormsAreOfSlots}
 use Rattle.right_linking.specs.Offers.{offered_by, offer_of}
 use Rattle.right_linking.specs.Starts.{Renewed, ReachInside}
 use Rattle.right_linking.specs.Root.{top_place, HasInstance, IsRootStarted, RootsStart}
@@ -40,24 +43,25 @@ use Rattle.right_linking.proofs.lemmas.RootPaths.{path-to-top, path-to-inside}
 use Rattle.right_linking.proofs.lemmas.Executions.{on-done}
 use Rattle.right_program_root.proofs.NumberedNames.{each-of}
 use Rattle.right_program_root.proofs.ChildCalls.{on_then, on_behind}
-use Rattle.right_program_root.proofs.PortedRows.{mapped-length}
-use Rattle.right_program_root.proofs.RootCopies.{Stores, one_store}
-use Rattle.right_program_root.proofs.RootStruct.{out_field, top_field, count-fields}
-use Rattle.right_program_root.proofs.RootForms.{form_at, form-of, count-forms, fields-below, keep-forms, earlier_forms, root-forms, top-forms}
+use Rattle.right_program_root.proofs.PortedRows.{map-map, mapped-by, mapped-length}
+use Rattle.right_program_root.proofs.RootCopies.{OwnPart, own_part, copy}
+use Rattle.right_program_root.proofs.RootStruct.{fields, out_field, top_field, count-fields, output-type}
+use Rattle.right_program_root.proofs.RootForms.{form_at, form-of, has-form, number-fits, count-forms, fields-below, keep-forms, earlier_forms, root-forms, top-forms}
 use Rattle.right_program_root.proofs.RootFacts.{root-fields, top-here, now-here, outputs-here, long}
 use Rattle.right_program_root.proofs.RootRoutines.{systems_count, root_scope, same-routine, runs-body, types-are, first-sum}
 use Rattle.right_program_root.proofs.RootBound.{within-bound, within-limit}
-use Rattle.right_program_root.proofs.TopCode.{start-shown, params-found, position-is, place-below, struct-name}
-use Rattle.right_program_root.proofs.TopFacts.{h, known, row, os, out-ports, few-outs, functions-short}
+use Rattle.right_program_root.proofs.TopCode.{start-shown, params-found, position-is, place-below, code-is, struct-name}
+use Rattle.right_program_root.proofs.TopFacts.{h, known, row, os, out-ports, few-outs, out-rows, outs-many, functions-short, places-many, output-slot}
 
 -- the laws on which the root's start rests
 pub record Laws : Type 0 where
   pub order : ProceduresStandInOrder
   pub budgets : BudgetsSumToBound
   pub systems : SystemsHavePlaces
+  pub fields_places : FieldsAreFound
   pub root : RootHasPlaces
 
-module _ (laws : Laws) (a : Parts) (v : Views a) (renewed : Renewed a v) where
+module _ (laws : Laws) (of_slots : FormsAreOfSlots) (a : Parts) (v : Views a) (renewed : Renewed a v) where
   abbrev p : ProgramTree
   p = program_of a
 
@@ -74,8 +78,15 @@ module _ (laws : Laws) (a : Parts) (v : Views a) (renewed : Renewed a v) where
   abbrev start : ℕ
   start = procedure_place p (start_name None)
 
+  -- where the outputs are in `top`
+  abbrev places : List ℕ
+  places = (v.at None).code.outputs
+
+  abbrev own_stmts : List ℕ → List StmtTree
+  own_stmts ps = map (copy scope f) (enumerate_from 0 ps) ++ assign 0 0 (literal (pos 0)) ∷ []
+
   abbrev body : List StmtTree
-  body = call 0 start (Child f) no_exprs ∷ assign 0 0 (literal (pos 0)) ∷ []
+  body = call 0 start (Child f) no_exprs ∷ own_stmts places
 
   head-name : (start_head (h a v)).name ≡ start_name None
   head-name = ap start_name (row a v)
@@ -93,9 +104,9 @@ module _ (laws : Laws) (a : Parts) (v : Views a) (renewed : Renewed a v) where
 
   body-is : procedure.body ≡ stmts_of_list body
   body-is =
-      ap (λ (name : List ℕ). stmts_of_list (call_top a.codes [] m (name ++ text "_start") ∷ assign 0 0 (literal (pos 0)) ∷ []))
+      ap (λ (name : List ℕ). stmts_of_list (call_top a.codes [] m (name ++ text "_start") ∷ own_stmts (code_at a.codes 0).outputs))
       (struct-name a v (row a v) (functions-short a v))
-      ∙ ap (λ s. stmts_of_list (s ∷ assign 0 0 (literal (pos 0)) ∷ [])) call-is
+      ∙ ap₂ (λ s (c : SystemTree). stmts_of_list (s ∷ own_stmts c.outputs)) call-is (code-is a v (row a v) (functions-short a v))
 
   same-start : routine_at scope.routines start ≡ (offer_of a v None).start.routine
   same-start =
@@ -123,16 +134,26 @@ module _ (laws : Laws) (a : Parts) (v : Views a) (renewed : Renewed a v) where
       (at-right (map out_field (os a v)) (top_field (struct_position a.codes 0) ∷ []) 0
       (top_field (struct_position a.codes 0)) refl)
 
+  type-here : (g : ℕ) →
+      type_at scope.types g ≡ type_at (field_types (fields (os a v) (struct_position a.codes 0) (out-ports a v) (few-outs a v))) g
+  type-here g = ap (λ ts. type_at ts g) (types-are laws.order a laws.root [] 0 ∙ ap field_types (root-fields laws.root a v))
+
+  out-form : (j : ℕ) (o : LocalRow) → slice_get (os a v) j ≡ Some o → slice_get forms (suc j) ≡ Some (holds_number (container o.out))
+  out-form j o at =
+      at-map (field_form (earlier_forms a)) (map out_field (os a v) ++ top_field (struct_position a.codes 0) ∷ []) j (out_field o)
+      (at-left (map out_field (os a v)) (top_field (struct_position a.codes 0) ∷ []) j (out_field o) (at-map out_field (os a v) j o at))
+
   -- what the start of `top` takes
-  few : (renewed.started None).most + 2 ≤ step_limit
+  few : (renewed.started None).most + m + 2 ≤ step_limit
   few =
       let spent = renewed.starts.0.in_time in
       let bound = within-bound a v laws.budgets in
       let limit = within-limit a v in
-      omega (arith, spent, bound, limit)
+      let same = outs-many a v in
+      omega (arith, spent, bound, limit, same)
 
-  -- the root has at least two fields more than `top`
-  short : 2 + (renewed.started None).most ≤ field_count (forms_at p (root_struct p))
+  -- the root has the tick, the outputs and `top` itself more than `top`
+  short : 2 + m + (renewed.started None).most ≤ field_count (forms_at p (root_struct p))
   short =
       let most = renewed.starts.0.short in
       let inner = ap field_count (renewed.starts.0.forms ∙ top-forms a v laws.systems) in
@@ -192,13 +213,26 @@ module _ (laws : Laws) (a : Parts) (v : Views a) (renewed : Renewed a v) where
               in_time = omega (arith, late);
             }
 
+    -- what is copied fits the output
+    copied-fits : (j q : ℕ) (at : slice_get places j ≡ Some q) →
+        is_in_type (container (output-slot a v j q at).0.out) (number_at started q) ≡ true
+    copied-fits j q at =
+        let slot = output-slot a v j q at in
+        let children = map (λ (u : ChildUse). forms_at p (struct_place p u.header.row)) (v.at None).local.children in
+        number-fits (container slot.0.out) (cell_at started q)
+        (has-form (map (slot_form children) (v.at None).slots) started q (holds_number (container slot.0.out))
+        (subst (λ fs. HasForms fs started) (renewed.starts.0.forms ∙ of_slots a v 0 None refl)
+        (renewed.starts.0.renews.keeps top top-formed))
+        (at-map (slot_form children) (v.at None).slots q (value slot.0) slot.2))
+
     -- after all
     pub record Begun (after : After) : Type 0 where
       pub count : cells_count after.cells ≡ cells_count before
       pub now_cell : cell_at after.cells 0 ≡ number (pos 0)
+      pub copied : (j q : ℕ) → slice_get places j ≡ Some q → cell_at after.cells (suc j) ≡ number (number_at started q)
       pub top_cell : cell_at after.cells f ≡ object started
-      pub others : (g : ℕ) → f ≢ g → 0 ≢ g → cell_at after.cells g ≡ cell_at before g
-      pub in_time : after.steps ≤ 2 + (renewed.started None).most
+      pub others : (g : ℕ) → f < g → cell_at after.cells g ≡ cell_at before g
+      pub in_time : after.steps ≤ 2 + m + (renewed.started None).most
 
     begun : OnDone ((routine_at (program_routines p) (unwrap_or (procedure_named p root_start_name) 0)).run [] before 0) Begun
     begun =
@@ -208,32 +242,42 @@ module _ (laws : Laws) (a : Parts) (v : Views a) (renewed : Renewed a v) where
         ∙ ap (λ k. (routine_at (program_routines p) k).run [] before 0) none
         ∙ runs-body laws.order a 0 procedure refl refl refl [] before 0 ∙ ap (λ ss. run_stmts scope ss before 0) body-is))
         (on_then (run_stmt scope (call 0 start (Child f) no_exprs) before 0)
-        (run_stmts scope (stmts_of_list (assign 0 0 (literal (pos 0)) ∷ []))) Called Begun called
-        (λ b has. on_behind b.log b.stores (run_stmts scope (stmts_of_list (assign 0 0 (literal (pos 0)) ∷ [])) b.cells b.steps)
-        (Stores f 0 (pos 0) b.cells (b.steps + 1)) Begun
-        (last b has)
-        (λ c stored. record {
-          count = stored.stands.count ∙ has.count;
-          now_cell = stored.stands.cell;
-          top_cell = stored.stands.others f (λ e. omega (arith, e)) ∙ has.top_cell;
-          others = λ g one two. stored.stands.others g two ∙ has.others g one;
-          in_time = let early = has.in_time in let late = stored.quiet.in_time in omega (arith, early, late);
-        })))
+        (run_stmts scope (stmts_of_list (own_stmts places))) Called Begun called
+        (λ b has. on_behind b.log b.stores (run_stmts scope (stmts_of_list (own_stmts places)) b.cells b.steps)
+        (OwnPart f places (pos 0) b.cells (b.steps + length places + 1)) Begun (own-part b has) (λ c own. all b c has own)))
       where
-        last : (b : After) → Called b → OnDone (run_stmts scope (stmts_of_list (assign 0 0 (literal (pos 0)) ∷ [])) b.cells b.steps)
-            (Stores f 0 (pos 0) b.cells (b.steps + 1))
-        last b has =
+        own-part : (b : After) → Called b → OnDone (run_stmts scope (stmts_of_list (own_stmts places)) b.cells b.steps)
+            (OwnPart f places (pos 0) b.cells (b.steps + length places + 1))
+        own-part b has =
             let size = wide in
             let same = has.count in
             let early = has.in_time in
             let room = few in
-            subst (λ o. OnDone o (Stores f 0 (pos 0) b.cells (b.steps + 1)))
-            (sym ((sequences_run_in_order scope b.cells b.steps).alone (assign 0 0 (literal (pos 0)))))
-            (one_store scope f 0 (literal (pos 0)) (pos 0) b.cells b.steps (omega (arith, size, same))
-            (gives_literal scope.functions (reads [] b.cells) 0 (pos 0))
-            (ap (λ ty. is_in_type ty (pos 0))
-            (ap (λ ts. type_at ts 0) (types-are laws.order a laws.root [] 0 ∙ ap field_types (root-fields laws.root a v))))
-            (omega (arith, room, early)))
+            let many = places-many a v in
+            own_part scope f places (literal (pos 0)) (pos 0) b.cells b.steps (omega (arith, many)) (omega (arith, size, same))
+            (λ j q at.
+            let slot = output-slot a v j q at in
+            ap₂ is_in_type
+            (type-here (j + 1) ∙ output-type (os a v) (struct_position a.codes 0) (out-ports a v) (few-outs a v) j slot.0 slot.1)
+            (ap (λ cell. number_at (cell_fields cell) q) has.top_cell) ∙ copied-fits j q at)
+            (λ x begins. gives_literal scope.functions (reads [] x) 0 (pos 0))
+            (ap (λ ty. is_in_type ty (pos 0)) (type-here 0))
+            (omega (arith, room, early, many))
+
+        all : (b c : After) → Called b → OwnPart f places (pos 0) b.cells (b.steps + length places + 1) c →
+            Begun (record { cells = c.cells; steps = c.steps; log = b.log ++ c.log; stores = b.stores ++ c.stores })
+        all b c has own =
+            let many = places-many a v in
+            record {
+              count = own.count ∙ has.count;
+              now_cell = own.tick;
+              copied = λ j q at.
+                  let next : suc j ≡ 1 + j = omega arith in
+                  ap (cell_at c.cells) next ∙ own.copied j q at ∙ ap (λ cell. number (number_at (cell_fields cell) q)) has.top_cell;
+              top_cell = own.others f (omega (arith, many)) ∙ has.top_cell;
+              others = λ g behind. own.others g (omega (arith, many, behind)) ∙ has.others g (λ e. omega (arith, e, behind));
+              in_time = let early = has.in_time in let late = own.quiet.in_time in omega (arith, early, late, many);
+            }
 
     -- ---- What is left
 
@@ -244,17 +288,25 @@ module _ (laws : Laws) (a : Parts) (v : Views a) (renewed : Renewed a v) where
       form-kept : (g : ℕ) → HasForm (form_at (forms_of forms) g) (cell_at before g) →
           HasForm (form_at (forms_of forms) g) (cell_at after.cells g)
       form-kept zero was = subst (HasForm (holds_number I32)) (sym has.now_cell) refl
-      form-kept (suc g) was = elim (eqb_tells f (suc g)) [
-        | inl (t, same) ↦
-            let here : f ≡ suc g = same in
-            subst (λ k. HasForm (form_at (forms_of forms) k) (cell_at after.cells k)) here
-            (subst (λ form. HasForm form (cell_at after.cells f))
-            (sym (form-of forms f (holds_instance inner_forms) top-form))
-            (subst (HasForm (holds_instance inner_forms)) (sym has.top_cell)
-            (subst (λ fs. HasForms fs started) (renewed.starts.0.forms ∙ top-forms a v laws.systems)
-            (renewed.starts.0.renews.keeps top top-formed))))
-        | inr (t, apart) ↦ subst (HasForm (form_at (forms_of forms) (suc g)))
-            (sym (has.others (suc g) (λ e. apart e) (λ e. omega (arith, e)))) was
+      form-kept (suc g) was = elim (cases_lt g m) [
+        | inl less ↦
+            let many = places-many a v in
+            let q = below-at places g (omega (arith, less, many)) in
+            let slot = output-slot a v g q.0 q.1 in
+            subst (λ form. HasForm form (cell_at after.cells (suc g)))
+            (sym (form-of forms (suc g) (holds_number (container slot.0.out)) (out-form g slot.0 slot.1)))
+            (subst (HasForm (holds_number (container slot.0.out))) (sym (has.copied g q.0 q.1)) (copied-fits g q.0 q.1))
+        | inr more ↦ elim (cases_lt f (suc g)) [
+          | inl behind ↦ subst (HasForm (form_at (forms_of forms) (suc g))) (sym (has.others (suc g) behind)) was
+          | inr within ↦
+              let here : f ≡ suc g = omega (arith, more, within) in
+              subst (λ k. HasForm (form_at (forms_of forms) k) (cell_at after.cells k)) here
+              (subst (λ form. HasForm form (cell_at after.cells f))
+              (sym (form-of forms f (holds_instance inner_forms) top-form))
+              (subst (HasForm (holds_instance inner_forms)) (sym has.top_cell)
+              (subst (λ fs. HasForms fs started) (renewed.starts.0.forms ∙ top-forms a v laws.systems)
+              (renewed.starts.0.renews.keeps top top-formed))))
+        ]
       ]
 
       system-started : (s : Option ℕ) → Contains (all_systems a) s → cells_at (path_to p (diagram a).rows s) after.cells ≡
@@ -279,12 +331,23 @@ module _ (laws : Laws) (a : Parts) (v : Views a) (renewed : Renewed a v) where
             ∙ ap (λ z. (renewed.started (Some e)).renewed (cells_at z before)) (sym path)
       ]
 
-      output-kept : (k n : ℕ) → 0 < k → k + n ≤ f → map (number_at after.cells) (range_with_len k n) ≡ map (number_at before)
-          (range_with_len k n)
-      output-kept k zero some most = refl
-      output-kept k (suc n) some most =
-          ap₂ (λ x xs. x ∷ xs) (ap cell_value (has.others k (λ e. omega (arith, e, most)) (λ e. omega (arith, e, some))))
-          (output-kept (k + 1) n (omega arith) (omega (arith, most)))
+      -- what the field of an Outport in `top` holds
+      abbrev outport_number : ℕ → ℤ
+      outport_number b = number_in p None (fields_at after.cells (top_place p)) (value_name b)
+
+      output-value : (j : ℕ) (o : LocalRow) → slice_get (os a v) j ≡ Some o → number_at after.cells (1 + j) ≡ outport_number o.row
+      output-value j o there =
+          let many = places-many a v in
+          let less = at-below (os a v) j o there in
+          let q = below-at places j (omega (arith, many, less)) in
+          let slot = output-slot a v j q.0 q.1 in
+          let same : slot.0 ≡ o = same_Some slot.0 o (sym slot.1 ∙ there) in
+          let place : place_in p None (value_name slot.0.row) ≡ q.0 =
+          laws.fields_places a v None q.0 (value slot.0) (in-first None _) slot.2 in
+          let next : 1 + j ≡ suc j = omega arith in
+          ap (number_at after.cells) next ∙ ap cell_value (has.copied j q.0 q.1)
+          ∙ ap₂ number_at (sym (ap (fields_at after.cells) (top-here laws.root a v) ∙ top-is))
+          (sym (ap (λ (z : LocalRow). place_in p None (value_name z.row)) (sym same) ∙ place))
 
       pub is-started : IsRootStarted a renewed.started before after.cells
       is-started = record {
@@ -298,22 +361,23 @@ module _ (laws : Laws) (a : Parts) (v : Views a) (renewed : Renewed a v) where
         systems = each-of (λ s. cells_at (path_to p (diagram a).rows s) after.cells ≡ (renewed.started s).renewed
             (cells_at (path_to p (diagram a).rows s) before)) (all_systems a) system-started;
         outputs =
-            ap (map (number_at after.cells)) (outputs-here laws.root a v) ∙ output-kept 1 m (omega arith) (omega arith)
-            ∙ sym (ap (map (number_at before)) (outputs-here laws.root a v));
+            ap (map (number_at after.cells)) (outputs-here laws.root a v)
+            ∙ mapped-by (number_at after.cells) (λ (o : LocalRow). outport_number o.row) 1 (os a v) output-value
+            ∙ sym (map-map outport_number (λ (o : LocalRow). o.row) (os a v)) ∙ ap (map outport_number) (out-rows a v);
         keeps = subst (λ fs. HasForms fs after.cells) (sym (root-forms a laws.root))
             (keep-forms (forms_of forms) before after.cells (subst (λ fs. HasForms fs before) (root-forms a laws.root) formed) has.count
             form-kept);
       }
 
 pub roots_start : Laws → RootsStart
-roots_start laws a v renewed reach paths before formed =
+roots_start laws of_slots a v renewed reach paths before formed =
     let inside = (paths before formed).0 in
     on-done ((routine_at (program_routines (program_of a)) (unwrap_or (procedure_named (program_of a) root_start_name) 0)).run []
-    before 0) (Begun laws a v renewed before formed inside)
+    before 0) (Begun laws of_slots a v renewed before formed inside)
     (λ after. (after.steps ≤ field_count (forms_at (program_of a) (root_struct (program_of a))))
     × IsRootStarted a renewed.started before after.cells)
     (λ after has. (
-      let early = has.in_time in let enough = short laws a v renewed in omega (arith, early, enough),
-      is-started laws a v renewed before formed inside reach after has,
+      let early = has.in_time in let enough = short laws of_slots a v renewed in omega (arith, early, enough),
+      is-started laws of_slots a v renewed before formed inside reach after has,
     ))
-    (begun laws a v renewed before formed inside)
+    (begun laws of_slots a v renewed before formed inside)

@@ -7,8 +7,6 @@ use Rattle.std.proofs.lemmas.List.FromFn.{length-range_with_len}
 use Rattle.std.proofs.lemmas.List.Sorted.{IsPermutation-refl}
 use Rattle.std.proofs.lemmas.Option.{get_or_from_slice_get, same_Some}
 use Rattle.base_fixed_point.specs.Conversion.{InType}
-use Rattle.diagram_blocks.specs.declared.Kind.{Kind}
-use Rattle.diagram_blocks.specs.declared.Kind.TheVariants.{Outport}
 use Rattle.diagram_blocks.specs.Meaning.{has_value}
 use Rattle.diagram_blocks.specs.Kinds.{is_outport, port_of}
 use Rattle.diagram_meaning.specs.Run.{value_at}
@@ -23,7 +21,7 @@ use Rattle.modules_profile.proofs.lemmas.Members.{in-at, in-filter, of-filter, o
 use Rattle.c_syntax.specs.declared.Leaf.TheVariants as leaf
 use Rattle.c_syntax.specs.declared.Target.TheVariants.{Child}
 use Rattle.c_syntax.specs.Tree.{read, ProgramTree, ProcedureTree, StmtTree, assign, call, stmts_of_list, type_at, field_types}
-use Rattle.c_semantics.specs.Cells.{Cells, cell_value, number_at, fields_at}
+use Rattle.c_semantics.specs.Cells.{Cells, cell_value, cell_fields, number_at, fields_at}
 use Rattle.c_semantics.specs.CellLaws.{cells_count}
 use Rattle.c_semantics.specs.Values.{gives, reads, is_in_type, step_limit}
 use Rattle.c_semantics.specs.Machine.{After, then_run, arguments, Routine, Scope, run_stmts, routine_at, program_routines, call_under}
@@ -50,10 +48,11 @@ use Rattle.right_linking.specs.Places.{SystemsHavePlaces, FieldsAreFound, RootHa
 use Rattle.right_linking.specs.Offers.{offered_by, offer_of, OffersAreOfHeaders}
 use Rattle.right_linking.specs.Lives.{whole_tick, outer_at, IsWhole}
 use Rattle.right_linking.specs.Root.{IsRootAt, TakesTick, RootsTakeTicks}
+use Rattle.right_linking.proofs.lemmas.NamedFields.{outport-valued}
 use Rattle.right_program_root.proofs.NumberedNames.{of-each}
 use Rattle.right_program_root.proofs.ChildCalls.{IsWith, Comes, stores_at-append, on_then, on_behind, tick_calls}
-use Rattle.right_program_root.proofs.PortedRows.{map-map}
-use Rattle.right_program_root.proofs.RootCopies.{OwnPart, own_part, next_tick, copy, stmts-append, tick-fits}
+use Rattle.right_program_root.proofs.PortedRows.{map-map, mapped-by}
+use Rattle.right_program_root.proofs.RootCopies.{OwnPart, own_part, next_tick, next-gives, copy, stmts-append, tick-fits}
 use Rattle.right_program_root.proofs.RootStruct.{fields, output-type}
 use Rattle.right_program_root.proofs.RootFacts.{root-fields, top-here, now-here, outputs-here, long}
 use Rattle.right_program_root.proofs.RootRoutines.{systems_count, root_scope, same-routine, runs-body, types-are, first-sum}
@@ -76,25 +75,12 @@ pub record Laws : Type 0 where
   pub root : RootHasPlaces
   pub offers : OffersAreOfHeaders
 
--- what is at each place, mapped
-mapped-by : {A : Type 0} (g : ℕ → ℤ) (f : A → ℤ) (k : ℕ) (xs : List A) → ((j : ℕ) (x : A) → slice_get xs j ≡ Some x → g (k + j) ≡ f x) →
-    map g (range_with_len k (length xs)) ≡ map f xs
-mapped-by g f k [] each = refl
-mapped-by g f k (x ∷ xs) each =
-    let here : k ≡ k + 0 = omega arith in
-    ap₂ (λ z zs. z ∷ zs) (ap g here ∙ each 0 x refl)
-    (mapped-by g f (k + 1) xs (λ j y at. let next : k + 1 + j ≡ k + suc j = omega arith in ap g next ∙ each (suc j) y at))
-
 zip-mapped : {A B C : Type 0} (R : B → C → Type 0) (g : A → B) (xs : List A) (ys : List C) → AllZip (λ x y. R (g x) y) xs ys →
     AllZip R (map g xs) ys
 zip-mapped R g [] [] all = tt
 zip-mapped R g [] (y ∷ ys) all = absurd all
 zip-mapped R g (x ∷ xs) [] all = absurd all
 zip-mapped R g (x ∷ xs) (y ∷ ys) all = (all.0, zip-mapped R g xs ys all.1)
-
-outport-has : (kind : Kind) → is_outport kind ≡ true → has_value kind ≡ true
-outport-has (Outport port resets initial) is = refl
-outport-has _ is = absurd (true≢false (sym is))
 
 -- an own Outport is an own row
 of-outs : (l : LocalSystem) (o : LocalRow) → Contains (outports l) o → Contains l.rows o × (is_outport o.kind ≡ true)
@@ -260,7 +246,7 @@ module _ (laws : Laws) (a : Parts) (v : Views a) where
         container-has o.out (value_at (slice_index_or run.values t []) o.row)
         (of-each (λ (r : LocalRow). InType r.out (value_at (slice_index_or run.values t []) r.row))
         (filter (λ (r : LocalRow). has_value r.kind) (local a v).rows) o typed.values
-        (in-filter (λ (r : LocalRow). has_value r.kind) (local a v).rows o own.0 (outport-has o.kind own.1)))
+        (in-filter (λ (r : LocalRow). has_value r.kind) (local a v).rows o own.0 (outport-valued o.kind own.1)))
 
     -- the fields of the root in this tick
     module _ (cells : Cells) (at : IsRootAt p a.hyper t (i.standing none_called) cells) where
@@ -305,14 +291,16 @@ module _ (laws : Laws) (a : Parts) (v : Views a) where
           let same = comes.stands.count in
           let late = comes.in_time in
           let many = places-many a v in
-          own_part (scope values) f (v.at None).code.outputs t a.hyper b.cells b.steps (omega (arith, many)) (omega (arith, size, same))
+          own_part (scope values) f (v.at None).code.outputs (next_tick a.hyper) (pos (suc t % a.hyper)) b.cells b.steps
+          (omega (arith, many)) (omega (arith, size, same))
           (λ j q listed.
           let is = copied-value j q listed in
           ap₂ is_in_type (type-here values (j + 1) ∙ output-type (os a v) (struct_position a.codes 0) (out-ports a v)
           (few-outs a v) j is.0 is.1)
           (ap (λ inside. number_at inside q) comes.stands.inside ∙ is.2)
           ∙ value-fits j is.0 is.1)
-          (type-here values 0) cycle.some cycle.short (keeps cells i.after b.cells comes.stands now)
+          (λ x begun. next-gives (scope values) x t a.hyper cycle.some cycle.short (begun ∙ keeps cells i.after b.cells comes.stands now))
+          (ap (λ ty. is_in_type ty (pos (suc t % a.hyper))) (type-here values 0) ∙ tick-fits (suc t) a.hyper cycle.some cycle.short)
           (omega (arith, count, room, late, many))
 
       -- both make a tick
@@ -322,8 +310,10 @@ module _ (laws : Laws) (a : Parts) (v : Views a) where
           TakesTick a xs run t i.after (record { cells = c.cells; steps = c.steps; log = b.log ++ c.log; stores = b.stores ++ c.stores })
       taken b c comes own = record {
         stands = record {
-          now = ap (number_at c.cells) (now-here laws.root a v) ∙ own.tick;
-          inner = ap (fields_at c.cells) (top-here laws.root a v) ∙ own.inside ∙ comes.stands.inside;
+          now = ap (number_at c.cells) (now-here laws.root a v) ∙ ap cell_value own.tick;
+          inner =
+              let many = places-many a v in
+              ap (fields_at c.cells) (top-here laws.root a v) ∙ ap cell_fields (own.others f (omega (arith, many))) ∙ comes.stands.inside;
           long = own.count ∙ comes.stands.count ∙ at.long;
         };
         outputs =
@@ -359,7 +349,7 @@ module _ (laws : Laws) (a : Parts) (v : Views a) where
               let q = below-at (v.at None).code.outputs j (omega (arith, many, less)) in
               let is = copied-value j q.0 q.1 in
               let same : is.0 ≡ o = same_Some is.0 o (sym is.1 ∙ there) in
-              own.copied j q.0 q.1 ∙ ap (λ inside. number_at inside q.0) comes.stands.inside ∙ is.2
+              ap cell_value (own.copied j q.0 q.1) ∙ ap (λ inside. number_at inside q.0) comes.stands.inside ∙ is.2
               ∙ ap (λ (z : LocalRow). value_at (slice_index_or run.values t []) z.row) same
 
       pub step-taken : OnDone (step_run p values cells) (TakesTick a xs run t i.after)

@@ -112,18 +112,25 @@ module _ (a : Parts) (v : Views a) where
   pub places-many : length (v.at None).code.outputs ≡ length os
   places-many = zip-long _ (outports local) (v.at None).code.outputs known.shape.places ∙ ap length outs-same
 
-  -- what is copied is where the output is offered
+  -- what is copied is the output's value
+  pub output-slot : (j q : ℕ) → slice_get (v.at None).code.outputs j ≡ Some q →
+      (o : LocalRow) × (slice_get os j ≡ Some o) × (slice_get (v.at None).slots q ≡ Some (value o))
+  output-slot j q at =
+      let found = zip-right _ (outports local) (v.at None).code.outputs j q known.shape.places at in
+      (found.0, ap (λ rows. slice_get rows j) (sym outs-same) ∙ found.1, found.2)
+
+  -- and it is where the output is offered
   pub output-place : FieldsAreFound → (j q : ℕ) → slice_get (v.at None).code.outputs j ≡ Some q →
       (o : LocalRow) × (slice_get os j ≡ Some o) × (slice_index (offer_of a v None).places j ≡ q)
   output-place fields j q at =
-      let found = zip-right _ (outports local) (v.at None).code.outputs j q known.shape.places at in
+      let found = output-slot j q at in
       let o = found.0 in
       let place : place_in (program_of a) None (value_name o.row) ≡ q = fields a v None q (value o) (in-first None _) found.2 in
       let listed : slice_get (offer_of a v None).places j ≡ Some (place_in (program_of a) h.row (value_name o.row)) =
       at-map (λ (e : ℕ × FixType). place_in (program_of a) h.row (value_name e.0)) h.outputs j (o.row, o.out)
-      (at-map (λ (z : LocalRow). (z.row, z.out)) (outports local) j o found.1) in (
+      (at-map (λ (z : LocalRow). (z.row, z.out)) (outports local) j o (ap (λ rows. slice_get rows j) outs-same ∙ found.1)) in (
         o,
-        ap (λ rows. slice_get rows j) (sym outs-same) ∙ found.1,
+        found.1,
         get_or_from_slice_get (offer_of a v None).places j (place_in (program_of a) h.row (value_name o.row)) 0 listed
             ∙ ap (λ s. place_in (program_of a) s (value_name o.row)) row ∙ place,
       )

@@ -23,13 +23,14 @@ pub fn roots_take_ticks()
     offers_are_of_headers();
 }
 
-/// The root's start starts all systems, sets the number of the tick to 0 and leaves the outputs,
-/// where a start reaches the systems inside.
+/// The root's start starts all systems, copies each output from its Outport's field and sets the
+/// number of the tick to 0, where a start reaches the systems inside.
 pub fn roots_start()
     ensures { RootsStart }
 {
     procedures_stand_in_order();
     budgets_sum_to_bound();
     systems_have_places();
+    fields_have_places();
     root_has_places();
 }

@@ -5,7 +5,8 @@
 //! calls and stores of the tick, and leaves the fields of the next tick.
 //!
 //! Proved to follow: where a start of an instance reaches each system inside it at its path, the
-//! root's start starts all systems, sets the number of the tick to 0 and keeps the outputs.
+//! root's start starts all systems, copies each output from its Outport's field and sets the number
+//! of the tick to 0.
 #![tactic(auto)]
 
 mod laws;

@@ -22,7 +22,7 @@ use Rattle.right_program_rules.proofs.FunctionNames.{root_both}
 use Rattle.right_program_rules.proofs.MovedLaws.{same-stmts_depth, same-stmts_exprs_depth}
 use Rattle.right_program_rules.proofs.Positions.{at-position}
 use Rattle.right_program_rules.proofs.Ports.{root-few}
-use Rattle.right_program_rules.proofs.RootStatements.{params, output_count, start_name, called_names, copy, to_next, start_stmts, step_stmts}
+use Rattle.right_program_rules.proofs.RootStatements.{params, output_count, start_name, called_names, copy, copies, to_start, to_next, start_stmts, step_stmts}
 
 -- ---- Lists of statements
 
@@ -71,23 +71,29 @@ module _ (a : Parts) (v : Views a) where
       (inports a.root) in
       omega (arith, few, made)
 
+  copies-all : (P : StmtTree → Type 0) → ((e : ℕ × ℕ) → P (copy a e)) → AllByRecursion P (copies a)
+  copies-all P copied = all-mapped P (copy a) (enumerate_from 0 (code_at a.codes 0).outputs) copied
+
+  start-all : (P : StmtTree → Type 0) → P (call_top a.codes [] (output_count a) (start_name a)) → ((e : ℕ × ℕ) → P (copy a e)) →
+      P (to_start a) → AllByRecursion P (start_stmts a)
+  start-all P first copied last = (first, all-append P (copies a) (to_start a ∷ []) (copies-all P copied) (last, tt))
+
   step-all : (P : StmtTree → Type 0) → ((name : List ℕ) → P (call_top a.codes (params a) (output_count a) name)) →
       ((e : ℕ × ℕ) → P (copy a e)) → P (to_next a) →
       AllByRecursion P (step_stmts a)
-  step-all P calls copies last =
-      all-append P (map (call_top a.codes (params a) (output_count a)) (called_names a) ++ map (copy a)
-      (enumerate_from 0 (code_at a.codes 0).outputs)) (to_next a ∷ [])
-      (all-append P (map (call_top a.codes (params a) (output_count a)) (called_names a))
-      (map (copy a) (enumerate_from 0 (code_at a.codes 0).outputs))
-      (all-mapped P (call_top a.codes (params a) (output_count a)) (called_names a) calls)
-      (all-mapped P (copy a) (enumerate_from 0 (code_at a.codes 0).outputs) copies))
+  step-all P calls copied last =
+      all-append P (map (call_top a.codes (params a) (output_count a)) (called_names a) ++ copies a) (to_next a ∷ [])
+      (all-append P (map (call_top a.codes (params a) (output_count a)) (called_names a)) (copies a)
+      (all-mapped P (call_top a.codes (params a) (output_count a)) (called_names a) calls) (copies-all P copied))
       (last, tt)
 
   root-fits : (k : ℕ) (q : ProcedureTree) → slice_get (root_both a v) k ≡ Some q → ProcedureFits q
   root-fits zero q at = subst ProcedureFits (same_Some _ q at) (record {
     params = omega arith;
-    statements = let low = stmts-shallow 1 (start_stmts a) (call-depth [] (start_name a), (omega arith, tt)) in omega (arith, low);
-    expressions = let low = exprs-shallow 3 (start_stmts a) (call-exprs [] (start_name a), (omega arith, tt)) in omega (arith, low);
+    statements = let low = stmts-shallow 1 (start_stmts a)
+        (start-all (λ s. stmt_depth s ≤ 1) (call-depth [] (start_name a)) (λ e. omega arith) (omega arith)) in omega (arith, low);
+    expressions = let low = exprs-shallow 3 (start_stmts a)
+        (start-all (λ s. stmt_exprs_depth s ≤ 3) (call-exprs [] (start_name a)) (λ e. omega arith) (omega arith)) in omega (arith, low);
   })
   root-fits (suc zero) q at = subst ProcedureFits (same_Some _ q at) (record {
     params = params-few;

@@ -32,7 +32,7 @@ use Rattle.right_program_rules.proofs.Params.{is_far, before-far}
 use Rattle.right_program_rules.proofs.Ports.{root-same}
 use Rattle.right_program_rules.proofs.Positions.{before_root, at-position, root-at, structs-long}
 use Rattle.right_program_rules.proofs.RootCalls.{params-are, params-differ, reach, step-call, start-call, IsThere, out-there, update-there}
-use Rattle.right_program_rules.proofs.RootStatements.{params, output_count, update_name, called_names, copy, to_start, to_next, step_stmts}
+use Rattle.right_program_rules.proofs.RootStatements.{params, output_count, start_name, update_name, called_names, copy, copies, to_start, to_next, start_stmts, step_stmts}
 use Rattle.right_program_rules.proofs.RootStruct.{now-number, output-number, top-struct, root-fields, root-struct-at}
 
 -- ---- Lists of statements
@@ -136,24 +136,40 @@ module _ (places : SystemsHavePlaces) (short : ResolvedCyclesAreShort) (a : Part
   of-root : length a.codes < length (program_of a).structs
   of-root = let long = structs-long a v in omega (arith, long)
 
+  copies-lawful : (number many : ℕ) (s : StmtTree) → Contains (copies a) s → IsLawfulStmt (reach a v number many) s
+  copies-lawful number many s has =
+      let from = of-map (copy a) (enumerate_from 0 (code_at a.codes 0).outputs) s has in
+      let at = of-enumerate 0 (code_at a.codes 0).outputs from.0 from.1 in
+      let place : at.0 ≡ from.0.0 = (let none : at.0 ≡ 0 + at.0 = omega arith in none) ∙ at.1 in
+      subst (IsLawfulStmt (reach a v number many)) from.2
+      (copy-lawful number many from.0.0 from.0.1
+      (subst (λ k. slice_get (code_at a.codes 0).outputs k ≡ Some from.0.1) place at.2))
+
+  start-lawful : (s : StmtTree) → Contains (start_stmts a) s → IsLawfulStmt (reach a v 0 0) s
+  start-lawful s has =
+      elim (in-cases (call_top a.codes [] (output_count a) (start_name a)) s (copies a ++ to_start a ∷ []) has) [
+        | inl same ↦ subst (IsLawfulStmt (reach a v 0 0)) same (start-call a v 0)
+        | inr more ↦ elim (Contains-append_cases (copies a) (to_start a ∷ []) s more) [
+          | inl copied ↦ copies-lawful 0 0 s copied
+          | inr last ↦ elim (in-cases (to_start a) s [] last) [
+            | inl same ↦ subst (IsLawfulStmt (reach a v 0 0)) same (zero-lawful 0 0)
+            | inr none ↦ absurd (in-none s none)
+          ]
+        ]
+      ]
+
   step-lawful : (s : StmtTree) → Contains (step_stmts a) s → IsLawfulStmt (reach a v 1 (length (params a))) s
   step-lawful s has =
-      elim (Contains-append_cases (map (call_top a.codes (params a) (output_count a)) (called_names a) ++ map (copy a)
-      (enumerate_from 0 (code_at a.codes 0).outputs)) (to_next a ∷ []) s has) [
+      elim (Contains-append_cases (map (call_top a.codes (params a) (output_count a)) (called_names a) ++ copies a)
+      (to_next a ∷ []) s has) [
         | inl front ↦ elim (Contains-append_cases (map (call_top a.codes (params a) (output_count a)) (called_names a))
-            (map (copy a) (enumerate_from 0 (code_at a.codes 0).outputs)) s front) [
+            (copies a) s front) [
               | inl calls ↦
                   let from = of-map (call_top a.codes (params a) (output_count a)) (called_names a) s calls in
                   let there = name-there from.0 from.1 in
                   subst (IsLawfulStmt (reach a v 1 (length (params a)))) from.2
                   (step-call a v 1 from.0 there.number there.own there.at there.is)
-              | inr copies ↦
-                  let from = of-map (copy a) (enumerate_from 0 (code_at a.codes 0).outputs) s copies in
-                  let at = of-enumerate 0 (code_at a.codes 0).outputs from.0 from.1 in
-                  let place : at.0 ≡ from.0.0 = (let none : at.0 ≡ 0 + at.0 = omega arith in none) ∙ at.1 in
-                  subst (IsLawfulStmt (reach a v 1 (length (params a)))) from.2
-                  (copy-lawful 1 (length (params a)) from.0.0 from.0.1
-                  (subst (λ k. slice_get (code_at a.codes 0).outputs k ≡ Some from.0.1) place at.2))
+              | inr copied ↦ copies-lawful 1 (length (params a)) s copied
             ]
         | inr last ↦ elim (in-cases (to_next a) s [] last) [
           | inl same ↦ subst (IsLawfulStmt (reach a v 1 (length (params a)))) same (next-lawful 1 (length (params a)))
@@ -174,7 +190,12 @@ module _ (places : SystemsHavePlaces) (short : ResolvedCyclesAreShort) (a : Part
       IsLawfulProcedure a.pures (program_of a).structs (take (before_root a v + number) (program_of a).procedures) q
   root-lawful zero q few at =
       subst (IsLawfulProcedure a.pures (program_of a).structs (take (before_root a v + 0) (program_of a).procedures)) (same_Some _ q at)
-      (record { of = of-root; params = tt; apart = tt; body = (start-call a v 0, (zero-lawful 0 0, tt)) })
+      (record {
+        of = of-root;
+        params = tt;
+        apart = tt;
+        body = list-lawful (reach a v 0 0) (start_stmts a) start-lawful;
+      })
   root-lawful (suc zero) q few at =
       subst (IsLawfulProcedure a.pures (program_of a).structs (take (before_root a v + 1) (program_of a).procedures)) (same_Some _ q at)
       (record {

@@ -29,6 +29,9 @@ module _ (a : Parts) where
   abbrev pub copy : ℕ × ℕ → StmtTree
   copy e = assign 0 (e.0 + 1) (read (Child (output_count + 1) e.1))
 
+  abbrev pub copies : List StmtTree
+  copies = map copy (enumerate_from 0 (code_at a.codes 0).outputs)
+
   abbrev pub to_start : StmtTree
   to_start = assign 0 0 (literal (pos 0))
 
@@ -36,8 +39,7 @@ module _ (a : Parts) where
   to_next = assign 0 0 (binary Rem (binary Add (read (Own 0)) (literal (pos 1))) (literal (pos a.hyper)))
 
   abbrev pub start_stmts : List StmtTree
-  start_stmts = call_top a.codes [] output_count start_name ∷ to_start ∷ []
+  start_stmts = call_top a.codes [] output_count start_name ∷ copies ++ to_start ∷ []
 
   abbrev pub step_stmts : List StmtTree
-  step_stmts = map (call_top a.codes params output_count) called_names ++ map copy
-      (enumerate_from 0 (code_at a.codes 0).outputs) ++ to_next ∷ []
+  step_stmts = map (call_top a.codes params output_count) called_names ++ copies ++ to_next ∷ []

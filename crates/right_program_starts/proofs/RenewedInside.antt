@@ -1,21 +1,24 @@
 -- Each system is started and reset with all inside it, and so is the whole program where its root starts.
 use Rattle.std.specs.Prelude.{◌≡◌, ℕ, ◌+◌, ◌%◌, ◌≤◌, List, [], ◌∷◌, map, Contains, Option, Some, None, unwrap_or, pos, refl}
 use Rattle.std.proofs.Common.{sym, ap, subst, ◌∙◌, arith}
+use Rattle.diagram_meaning.specs.Rows.{outports_of}
+use Rattle.diagram_meaning.specs.Run.{start_of}
 use Rattle.modules_profile.specs.LocalSystem.{LocalSystem}
 use Rattle.modules_profile.specs.Systems.{systems_inside}
 use Rattle.modules_profile.proofs.lemmas.Members.{in-first, at-in}
 use Rattle.c_syntax.specs.RootFields.{procedure_named, root_struct}
 use Rattle.c_semantics.specs.Cells.{Cell, Cells, fields_at, cells_at}
 use Rattle.c_semantics.specs.Machine.{After, Routine, routine_at, program_routines}
-use Rattle.emit_shape.specs.Names.{start_name, reset_name, root_start_name}
+use Rattle.emit_shape.specs.Names.{value_name, start_name, reset_name, root_start_name}
 use Rattle.emit_shape.specs.Programs.{procedure_place, struct_place}
 use Rattle.emit_shape.specs.Slots.{Slot}
 use Rattle.right_relation.specs.BudgetLaws.{BudgetsSumToBound}
 use Rattle.right_relation.specs.Forms.{HasForms}
 use Rattle.right_relation.specs.Instances.{Offered, Offer, OnDone}
 use Rattle.right_relation.specs.Renewals.{Renewal, IsStarted, IsReset}
-use Rattle.right_claim.specs.Paths.{path_to, path_inside}
+use Rattle.right_claim.specs.Paths.{number_in, path_to, path_inside}
 use Rattle.right_claim.specs.Driving.{AnswersScripts}
+use Rattle.right_claim.specs.Held.{valued_rows}
 use Rattle.right_claim.specs.Anew.{field_count, forms_at, AreStarted, AreReset, HoldsInside, FromAnyFields, RenewsAll, AreRestarted}
 use Rattle.right_linking.specs.Parts.{Parts, program_of, diagram, all_systems, Views}
 use Rattle.right_linking.specs.Places.{SystemsHavePlaces, FieldsAreFound, FormsAreOfSlots}
@@ -23,9 +26,10 @@ use Rattle.right_linking.specs.Offers.{offer_of}
 use Rattle.right_linking.specs.Starts.{IsRenewed, Renewed, ReachInside, RenewalsReachInside}
 use Rattle.right_linking.specs.Root.{top_place, IsRootStarted, HasInstance}
 use Rattle.right_linking.specs.Whole.{StartedAnswer, RenewalsGoInside, RestartsFollow}
+use Rattle.right_linking.proofs.lemmas.NamedFields.{outports-valued}
 use Rattle.right_linking.proofs.lemmas.RootPaths.{path-to-top, path-to-inside}
 use Rattle.right_linking.proofs.lemmas.Executions.{on-done}
-use Rattle.right_program_starts.proofs.Everywhere.{member, all-made}
+use Rattle.right_program_starts.proofs.Everywhere.{member, all-made, map-same}
 use Rattle.right_program_starts.proofs.NestedRows.{of-inside}
 use Rattle.right_program_starts.proofs.SystemPlaces.{nested, among-all}
 use Rattle.right_program_starts.proofs.InnerBudgets.{budget-below}
@@ -172,14 +176,25 @@ restarts_follow places fields a v renewed paths root answers takes before are =
     formed s has = subst (λ fs. HasForms fs (cells_at (path s) before)) (sym (starts-so fields a v renewed s has).forms)
         (instances before are s has).forms
 
+    root_has : Contains (all_systems a) None
+    root_has = in-first None (map Some (systems_inside (diagram a).rows None))
+
+    at_top : path None ≡ top ∷ []
+    at_top = path-to-top (program_of a) (diagram a).rows
+
+    top-started : (after : Cells) → IsRootStarted a renewed.started before after →
+        AreStarted (program_of a) (diagram a) None (fields_at after top)
+    top-started after is =
+        subst (AreStarted (program_of a) (diagram a) None) (sym is.stands.inner)
+        (started-here fields a v renewed places None (fields_at before top) root_has
+        (subst (λ p. HasForms (forms_at (program_of a) (struct_place (program_of a) None)) (cells_at p before)) at_top
+        (instances before are None root_has).forms))
+
     restarted : (after : Cells) → IsRootStarted a renewed.started before after → AreRestarted (program_of a) (diagram a) a.hyper before after
     restarted after is = record {
       tick = is.stands.now ∙ ap pos nothing;
       top = record {
-        here = subst (AreStarted (program_of a) (diagram a) None) (sym is.stands.inner)
-            (started-here fields a v renewed places None (fields_at before top) root_has
-            (subst (λ p. HasForms (forms_at (program_of a) (struct_place (program_of a) None)) (cells_at p before)) at_top
-            (instances before are None root_has).forms));
+        here = top-started after is;
         inside = all-made (λ e. Started (Some e) (cells_at (inner e) (fields_at before top)) (cells_at (inner e) (fields_at after top)))
             (systems_inside (diagram a).rows None) (λ e has.
             let among = among-all a None e has in
@@ -191,7 +206,12 @@ restarts_follow places fields a v renewed paths root answers takes before are =
             (started-here fields a v renewed places (Some e) (cells_at (path (Some e)) before) among
             (instances before are (Some e) among).forms));
       };
-      outputs = is.outputs;
+      outputs =
+          is.outputs
+          ∙ map-same (λ b. number_in (program_of a) None (fields_at after top) (value_name b)) (start_of (diagram a))
+          (outports_of (diagram a).rows None)
+          (λ b has. member (λ c. number_in (program_of a) None (fields_at after top) (value_name c) ≡ start_of (diagram a) c)
+          (valued_rows (diagram a) None) b (top-started after is).values (outports-valued (diagram a) None b has));
       traces = takes (fields_at before top) after
           (subst (λ p. HasForms (renewed.started None).forms (cells_at p before)) at_top (formed None root_has)) is.stands;
       scripts = all-made (λ s. AnswersScripts (program_of a) (diagram a) a.hyper (path s) s after) (all_systems a) (λ s has.
@@ -199,12 +219,6 @@ restarts_follow places fields a v renewed paths root answers takes before are =
           (member _ (all_systems a) s is.systems has));
     }
       where
-        root_has : Contains (all_systems a) None
-        root_has = in-first None (map Some (systems_inside (diagram a).rows None))
-
-        at_top : path None ≡ top ∷ []
-        at_top = path-to-top (program_of a) (diagram a).rows
-
         inner : ℕ → List ℕ
         inner e = path_inside (program_of a) (diagram a).rows None e
 

@@ -21,7 +21,6 @@ use Rattle.c_semantics.specs.Values.{Function, function_at, eval, gives}
 use Rattle.emit_shape.specs.NamedLeaf.{NamedLeaf, own, child}
 use Rattle.emit_shape.specs.Names.{value_name, port_name, now_name}
 use Rattle.c_syntax.specs.Outputs.{output_name}
-use Rattle.emit_shape.specs.Heads as heads
 use Rattle.emit_shape.specs.Heads.{Head, head_of, public_heads}
 use Rattle.emit_shape.specs.CodeNames.{CodeNames, named_fields, named_leaves, IsReadOf}
 use Rattle.emit_shape.specs.Reads.{expr_leaves}
@@ -32,7 +31,7 @@ use Rattle.emit_shape.specs.Used.{AreUsed}
 use Rattle.emit_shape.specs.Slots.{counters_in}
 use Rattle.emit_shape.specs.Programs.{procedure_at, no_procedure, field_in, names_in, procedures_of, struct_place, struct_at}
 use Rattle.emit_shape.specs.Faces.{stores, takes, HasLeastInterface}
-use Rattle.emit_shape.specs.RootCode.{RootStep, calls, copies, moves_on, IsPassed, MovesOn, DoesCall, DoesStore, Does, root_fields_of, is_literal, is_literal_store, literal_number, BeginsTick, tick_steps, HasRootCode}
+use Rattle.emit_shape.specs.RootCode.{RootStep, calls, copies, moves_on, IsPassed, MovesOn, DoesCall, DoesStore, Does, root_fields_of, is_literal, is_literal_store, literal_number, BeginsTick, start_steps, tick_steps, HasRootCode}
 use Rattle.emit_shape.specs.ProgramShape.{viewed, AreOfPrelude, HasSystemShape, HasShape}
 use Rattle.emit_pruned.specs.Calls.{expr_functions}
 use Rattle.emit_pruned.specs.Pruned.{renumbered_expr, renumbered_stmt, renumbered_stmts, renumbered_pure, renumbered_procedure, kept_from}
@@ -320,11 +319,11 @@ module _ (place : ℕ → ℕ) (pures : List PureTree) (p : ProgramTree) where
             (each-map moved_stmt (BeginsTick p h.start) (BeginsTick r (move h.start)) literal_stores
             (λ a one. begins-alike hyper h.start a one) h.tick_alone);
         starts =
-            subst (AllZip (Does r hyper (move h.start)) (calls (heads.start_head (header_of d None h.profile)) ∷ []))
+            subst (AllZip (Does r hyper (move h.start)) (start_steps d (header_of d None h.profile)))
             (sym (kept-moved place not h.start.body))
             (zip-map moved_stmt (Does p hyper h.start) (Does r hyper (move h.start))
             (λ step a one. does-alike hyper h.start step a one)
-            (calls (heads.start_head (header_of d None h.profile)) ∷ []) others h.starts);
+            (start_steps d (header_of d None h.profile)) others h.starts);
         does = subst (AllZip (Does r hyper (move h.step)) (tick_steps d (header_of d None h.profile)))
             (sym (stmts-list place h.step.body))
             (zip-map moved_stmt (Does p hyper h.step) (Does r hyper (move h.step))

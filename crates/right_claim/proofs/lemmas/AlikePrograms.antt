@@ -5,7 +5,7 @@ use Rattle.std.proofs.Common.{refl, sym, ap, subst, ◌∙◌}
 use Rattle.diagram_activity.specs.declared.TrigMem.{TrigMem}
 use Rattle.diagram_blocks.specs.Meaning.{has_value}
 use Rattle.diagram_meaning.specs.declared.table.Row.{Row}
-use Rattle.diagram_meaning.specs.Rows.{row_at, rows_of, around, system_control, is_triggered}
+use Rattle.diagram_meaning.specs.Rows.{row_at, rows_of, outports_of, around, system_control, is_triggered}
 use Rattle.diagram_meaning.specs.Diagram.{Diagram}
 use Rattle.diagram_meaning.specs.Run.{value_at, memory_at, first_of, start_of, active_in, outs}
 use Rattle.diagram_meaning.specs.Laws.{Run}
@@ -410,7 +410,7 @@ module _ (p q : ProgramTree) (are : AreAlike p q) where
         (all-started-alike d None _ _ h.top);
     outputs =
         subst (λ ss. map (number_at after) (output_fields (root_fields (bare ss)))
-        ≡ map (number_at before) (output_fields (root_fields (bare ss)))) structs h.outputs;
+        ≡ map (start_of d) (outports_of d.rows None)) structs h.outputs;
     traces = traces-alike d after h.traces;
     scripts =
         each-then (λ s. AnswersScripts p d hyper (path_to p d.rows s) s after)

@@ -1,16 +1,19 @@
 -- The fields of a system's struct by their names: rows, the trigger and counters have slots, and each field is where its slot is.
 use Rattle.std.specs.Prelude.{◌≡◌, ℕ, Bool, true, List, filter, slice_get, Contains, Option, Some, None, refl}
 use Rattle.std.proofs.Common.{sym, ap, subst, ◌∙◌, true≢false}
+use Rattle.diagram_blocks.specs.declared.Kind.{Kind}
+use Rattle.diagram_blocks.specs.declared.Kind.TheVariants.{Outport}
+use Rattle.diagram_blocks.specs.Kinds.{is_outport}
 use Rattle.diagram_blocks.specs.Meaning.{has_value}
-use Rattle.diagram_meaning.specs.Rows.{row_at, rows_of, system_control, is_triggered}
+use Rattle.diagram_meaning.specs.Rows.{row_at, rows_of, outports_of, system_control, is_triggered}
 use Rattle.diagram_meaning.specs.Diagram.{Diagram, op_at, type_at}
 use Rattle.diagram_meaning.specs.Run.{start_by, start_of}
 use Rattle.modules_profile.specs.declared.LocalRow.{LocalRow}
 use Rattle.modules_profile.specs.LocalSystem.{LocalSystem}
 use Rattle.modules_profile.specs.Locals.{local_row}
 use Rattle.modules_profile.specs.Systems.{system_name}
-use Rattle.modules_profile.proofs.lemmas.Members.{in-map, of-map, of-filter, in-at, at-in}
-use Rattle.modules_profile.proofs.lemmas.PortRows.{of-rows}
+use Rattle.modules_profile.proofs.lemmas.Members.{in-map, of-map, in-filter, of-filter, in-at, at-in}
+use Rattle.modules_profile.proofs.lemmas.PortRows.{in-rows, of-rows, of-ports}
 use Rattle.c_syntax.specs.declared.CType.{CType}
 use Rattle.c_syntax.specs.Tree.{FieldTree, StructTree, struct_fields}
 use Rattle.emit_shape.specs.Delays.{is_single, is_line}
@@ -24,6 +27,17 @@ use Rattle.right_claim.specs.Held.{valued_rows, single_rows, line_rows, counter_
 use Rattle.right_linking.specs.Parts.{Parts, program_of, diagram, all_systems, IsCodedAs, Views}
 use Rattle.right_linking.specs.Places.{SystemsHavePlaces, FieldsAreFound}
 use Rattle.right_linking.proofs.lemmas.OwnSlots.{value-there, memory-there, items-there, place-there, taken-there, trigger-there}
+
+-- an Outport has a value
+pub outport-valued : (kind : Kind) → is_outport kind ≡ true → has_value kind ≡ true
+outport-valued (Outport port resets initial) is = refl
+outport-valued _ is = absurd (true≢false (sym is))
+
+pub outports-valued : (d : Diagram) (s : Option ℕ) (b : ℕ) → Contains (outports_of d.rows s) b → Contains (valued_rows d s) b
+outports-valued d s b has =
+    let own = of-ports d.rows s is_outport b has in
+    in-filter (λ c. has_value (row_at d.rows c).kind) (rows_of d.rows s) b (in-rows d.rows s b own.0 own.1)
+    (outport-valued (row_at d.rows b).kind own.2)
 
 no-counter : (o : Option ℕ) → is_counter_name (system_name o) ≡ true → ⊥
 no-counter None named = true≢false (sym named)

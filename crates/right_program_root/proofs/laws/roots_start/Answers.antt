@@ -6,5 +6,6 @@ returns c = roots_start (record {
   order = c.procedures_stand_in_order.ensures;
   budgets = c.budgets_sum_to_bound.ensures;
   systems = c.systems_have_places.ensures;
+  fields_places = c.fields_have_places.ensures;
   root = c.root_has_places.ensures;
 })
