@@ -118,47 +118,39 @@ fn push_neighbours(
             list.push(statement(next))?;
             list.push(statement(first))?;
         }
-        Fusion::Straight => {
-            let Choice {
-                line,
-                test,
-                yes,
-                no,
-            } = first;
-            list.push(joined_choice(alloc, line, test, yes, next.yes, no, next.no)?)?;
-        }
-        Fusion::Crossed => {
-            let Choice {
-                line,
-                test,
-                yes,
-                no,
-            } = first;
-            list.push(joined_choice(alloc, line, test, yes, next.no, no, next.yes)?)?;
-        }
+        Fusion::Straight => list.push(joined_choice(alloc, first, next.yes, next.no)?)?,
+        Fusion::Crossed => list.push(joined_choice(alloc, first, next.no, next.yes)?)?,
         Fusion::Turned => {
-            let Choice { line, yes, no, .. } = first;
-            list.push(joined_choice(alloc, line, next.test, no, next.yes, yes, next.no)?)?;
+            let turned = Choice {
+                line: first.line,
+                test: next.test,
+                yes: first.no,
+                no: first.yes,
+            };
+            list.push(joined_choice(alloc, turned, next.yes, next.no)?)?;
         }
     }
     Ok(())
 }
 
-/// An `if` with the statements of one before those of another, on both sides.
+/// An `if` with its statements before later ones, on both sides.
 #[cycle(joining)]
 fn joined_choice(
     alloc: Global,
-    line: u32,
-    test: Cond,
-    yes: Vec<Stmt>,
+    first: Choice,
     later_yes: Vec<Stmt>,
-    no: Vec<Stmt>,
     later_no: Vec<Stmt>,
 ) -> Result<Stmt, Memory>
-    ensures { IfOk result (λ s. turned_stmt (stmt_tree s) ≡ branch line (cond_tree test)
-        (fused.joined (turned yes.items) (turned later_yes.items))
-        (fused.joined (turned no.items) (turned later_no.items))) }
+    ensures { IfOk result (λ s. turned_stmt (stmt_tree s) ≡ branch first.line (cond_tree first.test)
+        (fused.joined (turned first.yes.items) (turned later_yes.items))
+        (fused.joined (turned first.no.items) (turned later_no.items))) }
 {
+    let Choice {
+        line,
+        test,
+        yes,
+        no,
+    } = first;
     let yes = joined(alloc, yes, later_yes)?;
     let no = joined(alloc, no, later_no)?;
     Ok(statement(Choice {

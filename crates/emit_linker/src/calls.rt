@@ -123,22 +123,22 @@ pub(crate) fn call_top(
     Ok(call_behind(outputs, procedure, values))
 }
 
-/// Adds calls of the topmost system's procedures of some names.
-pub(crate) fn push_calls(
+/// Calls of the topmost system's procedures of some names.
+pub(crate) fn calls_of_top(
     alloc: Global,
     codes: &Codes<'_>,
     params: &[(Text, CType)],
     outputs: u32,
     names: &[Text],
-    list: &mut Vec<Stmt>,
-) -> Result<(), Memory>
+) -> Result<Vec<Stmt>, Memory>
     requires { outputs + 1 < 2 ^ 32 }
-    ensures { OnOk result (map stmt_tree list.new.items ≡ map stmt_tree list.old.items
-        ++ map (assembled.call_top (trees codes.now.list.now) (param_trees params.now) outputs)
+    ensures { IfOk result (λ v. map stmt_tree v.items
+        ≡ map (assembled.call_top (trees codes.now.list.now) (param_trees params.now) outputs)
         names.now) }
 {
+    let mut calls = Vec::new(alloc);
     for name in names {
-        list.push(call_top(alloc, codes, params, outputs, name.bytes())?)?;
+        calls.push(call_top(alloc, codes, params, outputs, name.bytes())?)?;
     }
-    Ok(())
+    Ok(calls)
 }

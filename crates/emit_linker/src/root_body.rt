@@ -9,7 +9,7 @@ ghost use Rattle.emit_shape.specs.SystemTree.{system_tree};
 ghost use Rattle.emit_shape.specs.Assembled as assembled;
 ghost use Rattle.emit_linker.specs.Places.{trees};
 
-use crate::calls::{call_top, push_calls};
+use crate::calls::{call_top, calls_of_top};
 use crate::codes::Codes;
 use crate::lists::small;
 use crate::names::with_end;
@@ -134,8 +134,7 @@ pub(crate) fn step_body(
 {
     let top = codes.at(0);
     let names = step_names(alloc, top)?;
-    let mut list = Vec::new(alloc);
-    push_calls(alloc, codes, params, count, &names, &mut list)?;
+    let mut list = calls_of_top(alloc, codes, params, count, &names)?;
     push_outputs(count, outputs_of(top), &mut list)?;
     list.push(next_tick(alloc, hyper)?)?;
     Ok(list)

@@ -2,7 +2,7 @@
 ghost use Rattle.std.specs.Prelude.{◌≡◌, IfOk, map};
 ghost use Rattle.c_syntax.specs.Tree as tree;
 ghost use Rattle.c_syntax.specs.Tree.{stmts_of_list};
-ghost use Rattle.c_syntax.specs.Plain.{cond_tree, expr_tree, stmt_tree};
+ghost use Rattle.c_syntax.specs.Plain.{cond_tree, stmt_tree};
 ghost use Rattle.emit_shape.specs.Relocation as moved;
 ghost use Rattle.emit_linker.specs.Linked.{relocation};
 
@@ -10,7 +10,7 @@ use crate::exprs::{boxed_moved_expr, moved_cond, moved_expr, moved_exprs};
 use crate::links::Links;
 use crate::lists::{number_at, sum};
 use base_core::Memory;
-use c_syntax::{Cond, Expr, Stmt};
+use c_syntax::{Cond, Stmt};
 use std::alloc::Global;
 
 /// The position of a procedure that a code names by its number.
@@ -38,28 +38,6 @@ fn choice(line: u32, test: Cond, yes: Vec<Stmt>, no: Vec<Stmt>) -> Stmt
     }
 }
 
-/// A store in an item of an array, with its leaves moved.
-fn moved_set_at(
-    alloc: Global,
-    links: &Links<'_>,
-    line: u32,
-    field: u32,
-    index: &Expr,
-    value: &Expr,
-) -> Result<Stmt, Memory>
-    ensures { IfOk result (λ x. stmt_tree x ≡ moved.moved_stmt (relocation links.now)
-        (tree.assign_at line field (expr_tree index.now) (expr_tree value.now))) }
-{
-    let index = boxed_moved_expr(alloc, links, index)?;
-    let value = moved_expr(alloc, links, value)?;
-    Ok(Stmt::SetAt {
-        line,
-        field,
-        index: Box::into_inner(index),
-        value,
-    })
-}
-
 /// A statement with its calls and leaves moved.
 #[cycle(statement)]
 fn moved_stmt(alloc: Global, links: &Links<'_>, s: &Stmt) -> Result<Stmt, Memory>
@@ -79,7 +57,16 @@ fn moved_stmt(alloc: Global, links: &Links<'_>, s: &Stmt) -> Result<Stmt, Memory
             field,
             index,
             value,
-        } => moved_set_at(alloc, links, *line, *field, index, value),
+        } => {
+            let index = boxed_moved_expr(alloc, links, index)?;
+            let value = moved_expr(alloc, links, value)?;
+            Ok(Stmt::SetAt {
+                line: *line,
+                field: *field,
+                index: Box::into_inner(index),
+                value,
+            })
+        }
         Stmt::If {
             line,
             test,

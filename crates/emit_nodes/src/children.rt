@@ -40,29 +40,44 @@ fn entering_leaves(
     layout.wire_leaves(alloc, &wires)
 }
 
-/// The statements that call function `j`, from 1 on, of the child at a place.
-///
-/// Fails only when memory runs out.
-pub(crate) fn call_code(
-    alloc: Global,
-    layout: &Layout<'_>,
-    params: &Params,
-    place: usize,
-    child: &ChildUse,
-    j: u8,
-) -> Result<Vec<Stmt>, Memory>
-    requires emittable { IsEmittable layout.now.local layout.now.schedule }
-    requires child { IsChild child.now }
-    requires place { place < length layout.now.local.children }
-    ensures { let of = layout.now in IfOk result (λ v. code_of v.items
-        ≡ node.call_code of.local (own_count of.schedule) params.now place child.now j) }
-{
-    let entering = entering_leaves(alloc, layout, child)?;
-    let taken = taken(alloc, &child.header, j, &entering)?;
-    let leaves = with_now(alloc, params, &taken)?;
-    let active = active_test(alloc, layout, params)?;
-    let procedure = layout.child_base(place) + u32::from(j).saturating_sub(1);
-    call_statements(alloc, active, procedure, layout.child_field(place), &leaves)
+/// A call of a function, by its number from 1 on, of the child at a place.
+#[derive(Clone, Copy, Drop)]
+pub(crate) struct ChildCall<'a> {
+    pub(crate) place: usize,
+    pub(crate) child: &'a ChildUse,
+    pub(crate) function: u8,
+}
+
+impl<'a> ChildCall<'a> {
+    /// The statements that make the call.
+    ///
+    /// Fails only when memory runs out.
+    pub(crate) fn code(
+        &self,
+        alloc: Global,
+        layout: &Layout<'_>,
+        params: &Params,
+    ) -> Result<Vec<Stmt>, Memory>
+        requires emittable { IsEmittable layout.now.local layout.now.schedule }
+        requires child { IsChild self.now.child.now }
+        requires place { self.now.place < length layout.now.local.children }
+        ensures { let of = layout.now in let called = self.now in IfOk result (λ v. code_of v.items
+            ≡ node.call_code of.local (own_count of.schedule) params.now called.place
+            called.child.now called.function) }
+    {
+        let entering = entering_leaves(alloc, layout, self.child)?;
+        let taken = taken(alloc, &self.child.header, self.function, &entering)?;
+        let leaves = with_now(alloc, params, &taken)?;
+        let active = active_test(alloc, layout, params)?;
+        let procedure = layout.child_base(self.place) + u32::from(self.function).saturating_sub(1);
+        call_statements(
+            alloc,
+            active,
+            procedure,
+            layout.child_field(self.place),
+            &leaves,
+        )
+    }
 }
 
 /// The statements that call the update of the child at a place.

@@ -5,7 +5,7 @@ ghost use Rattle.emit_system_spec.specs.Groups.{own_count};
 ghost use Rattle.emit_system_spec.specs.NodeCode as node;
 ghost use Rattle.emit_nodes.specs.Code.{code_of};
 
-use crate::children::call_code;
+use crate::children::ChildCall;
 use crate::lists::push_code;
 use crate::rows::value_code;
 use base_core::Memory;
@@ -34,7 +34,14 @@ fn node_code(
             None => Ok(Vec::new(alloc)),
         },
         Place::Call { child, function } => match local.children.as_slice().get(child) {
-            Some(used) => call_code(alloc, layout, params, child, used, function),
+            Some(used) => {
+                let call = ChildCall {
+                    place: child,
+                    child: used,
+                    function,
+                };
+                call.code(alloc, layout, params)
+            }
             None => Ok(Vec::new(alloc)),
         },
     }

@@ -11,8 +11,8 @@ use c_syntax::{Expr, Leaf, Stmt};
 use diagram_blocks::Op;
 use emit_layout::{Layout, Params};
 use emit_row_code::{
-    memory_statements, oldest_code, ring_statements, trigger_statements, value_code as rhs_code,
-    value_reset_statements, value_statements,
+    DelayStep, oldest_code, trigger_statements, value_code as rhs_code, value_reset_statements,
+    value_statements,
 };
 use emit_row_facts::row_start;
 use modules_profile::LocalRow;
@@ -146,13 +146,12 @@ pub fn memory_code(
     let runs = runs_test(alloc, layout, params, row)?;
     let input = first_input(layout, params, row);
     let off = off_test(alloc, layout, params)?;
+    let step = DelayStep { runs, input, off };
     match row.op {
-        Op::Line { length, .. } => {
-            ring_statements(alloc, layout.ring_fields(row.row), length, runs, input, off)
-        }
+        Op::Line { length, .. } => step.ring_statements(alloc, layout.ring_fields(row.row), length),
         _ => {
             let start = row_start(layout.local(), row);
-            memory_statements(alloc, layout.memory_field(row.row), runs, input, off, start)
+            step.memory_statements(alloc, layout.memory_field(row.row), start)
         }
     }
 }

@@ -5,7 +5,7 @@ use Rattle.std.specs.Prelude.{Option, Some}
 use Rattle.std.specs.Int.{int_min, int_max, w128}
 use Rattle.emit_row_code.specs.declared.ranges.Range.{Range}
 use Rattle.base_fixed_point.specs.declared.FixType.{FixType}
-use Rattle.emit_row_code.specs.Ranges.{range_from, added, multiplied, with_term, sum_range}
+use Rattle.emit_row_code.specs.Ranges.{range_from, added, multiplied, term_range, sum_range}
 
 -- a function of two equal numbers
 pub pair : (f : ℤ → ℤ → ℤ) (x y u v : ℤ) → x ≡ u → y ≡ v → f x y ≡ f u v
@@ -37,9 +37,10 @@ split_at (f ∷ fs) zero h = refl
 split_at (f ∷ fs) (suc i) h = split_at fs i (omega (arith, h))
 
 -- one term more
-pub sum_more : (minus F i n : ℕ) (fs : List ℕ) (types : List FixType) (total more whole : Option Range) → i < length fs → suc i ≡ n →
-    more ≡ with_term minus F i (get_or fs i 0) types total → sum_range minus F i (drop i fs) types total ≡ whole →
-    sum_range minus F n (drop n fs) types more ≡ whole
-sum_more minus F i n fs types total more whole h next e so_far =
-    sym (ap (λ k. sum_range minus F k (drop k fs) types more) next) ∙ ap (sum_range minus F (suc i) (drop (suc i) fs) types) e
+pub sum_more : (minus F i n : ℕ) (fs : List ℕ) (types : List FixType) (total term more whole : Option Range) → i < length fs →
+    suc i ≡ n → term ≡ term_range minus F i (get_or fs i 0) types → more ≡ added total term →
+    sum_range minus F i (drop i fs) types total ≡ whole → sum_range minus F n (drop n fs) types more ≡ whole
+sum_more minus F i n fs types total term more whole h next e sum so_far =
+    sym (ap (λ k. sum_range minus F k (drop k fs) types more) next)
+    ∙ ap (sum_range minus F (suc i) (drop (suc i) fs) types) (sum ∙ ap (added total) e)
     ∙ sym (ap (λ gs. sum_range minus F i gs types total) (split_at fs i h)) ∙ so_far

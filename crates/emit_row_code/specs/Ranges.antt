@@ -48,13 +48,16 @@ multiplied (Some a) (Some b) =
 abbrev pub gain_range : ℤ → List FixType → Option Range
 gain_range m types = multiplied (input_range types 0) (just m)
 
--- a number of a total and the term for input i + 1, of f bits after the point, in units of F bits;
--- bit i of minus subtracts it
+-- the term for input i + 1, of f bits after the point, in units of F bits; bit i of minus subtracts
+-- it
+abbrev pub term_range : ℕ → ℕ → ℕ → ℕ → List FixType → Option Range
+term_range minus F i f types =
+    multiplied (input_range types i)
+    (just (signed_term (bit_at minus i == 1) (pos (2 ^ (F - f)))))
+
+-- a number of a total and that term
 abbrev pub with_term : ℕ → ℕ → ℕ → ℕ → List FixType → Option Range → Option Range
-with_term minus F i f types total =
-    added total
-    (multiplied (input_range types i)
-    (just (signed_term (bit_at minus i == 1) (pos (2 ^ (F - f))))))
+with_term minus F i f types total = added total (term_range minus F i f types)
 
 -- the same with the terms from input i + 1 on
 abbrev pub sum_range : ℕ → ℕ → ℕ → List ℕ → List FixType → Option Range → Option Range

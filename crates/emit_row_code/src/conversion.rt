@@ -7,7 +7,7 @@ use crate::expression::{binary, call, power, written};
 use crate::ranges::{Range, surely_holds};
 use base_core::Memory;
 use base_fixed_point::{FixType, Over, Round, greatest, least};
-use c_syntax::{BinOp, Expr};
+use c_syntax::{BinOp, Expr, Leaf};
 use diagram_blocks::How;
 use std::alloc::Global;
 
@@ -42,12 +42,12 @@ pub(crate) fn aligned(alloc: Global, e: Expr, frac: u32, common: u32) -> Result<
     binary(alloc, BinOp::Mul, e, power(common - frac))
 }
 
-/// An expression of `frac` fraction bits as a whole number of units of 2^-unit.
-fn rounded(alloc: Global, e: Expr, frac: u32, unit: u32, how: How) -> Result<Expr, Memory>
-    requires shifts { unit - frac ≤ 62 }
-    requires divides { frac - unit ≤ 62 }
-    ensures { IfOk result (λ r. expr_tree r ≡ code.rounded_code (expr_tree e) frac unit how) }
+/// An expression of `frac` fraction bits as a whole number of a type's units.
+fn rounded(alloc: Global, e: Expr, frac: u32, to: FixType, how: How) -> Result<Expr, Memory>
+    requires { frac - to.frac ≤ 62 }
+    ensures { IfOk result (λ r. expr_tree r ≡ code.rounded_code (expr_tree e) frac to.frac how) }
 {
+    let unit = u32::from(to.frac);
     if frac <= unit {
         return aligned(alloc, e, frac, unit);
     }
@@ -76,23 +76,35 @@ fn cast(alloc: Global, over: Over, to: FixType, e: Expr) -> Result<Expr, Memory>
     }
 }
 
-/// An expression of `frac` fraction bits, for a number of a range, converted into a type: by a call where its unit is finer than
-/// the type's, and another where the type may not hold the number.
-pub(crate) fn converted(
-    alloc: Global,
-    e: Expr,
-    frac: u32,
-    range: Option<Range>,
-    to: FixType,
-    how: How,
-) -> Result<Expr, Memory>
-    requires { frac - to.frac ≤ 62 }
-    ensures { IfOk result (λ c. expr_tree c ≡ code.converted (expr_tree e) frac range to how) }
-{
-    let whole = rounded(alloc, e, frac, u32::from(to.frac), how)?;
-    if surely_holds(to, frac, range) {
-        Ok(whole)
-    } else {
-        cast(alloc, how.over, to, whole)
+/// What a row computes of its inputs is brought into a type: where these are read, and their types as far as they are known,
+/// in their order.
+#[derive(Clone, Copy, Drop)]
+pub(crate) struct Conversion<'a> {
+    pub(crate) inputs: &'a [Leaf],
+    pub(crate) types: &'a [FixType],
+    pub(crate) to: FixType,
+    pub(crate) how: How,
+}
+
+impl<'a> Conversion<'a> {
+    /// An expression of `frac` fraction bits, for a number of a range, converted: by a call where its unit is finer than the
+    /// type's, and another where the type may not hold the number.
+    pub(crate) fn converted(
+        &self,
+        alloc: Global,
+        e: Expr,
+        frac: u32,
+        range: Option<Range>,
+    ) -> Result<Expr, Memory>
+        requires { frac - self.now.to.frac ≤ 62 }
+        ensures { IfOk result (λ c. expr_tree c
+            ≡ code.converted (expr_tree e) frac range self.now.to self.now.how) }
+    {
+        let whole = rounded(alloc, e, frac, self.to, self.how)?;
+        if surely_holds(self.to, frac, range) {
+            Ok(whole)
+        } else {
+            cast(alloc, self.how.over, self.to, whole)
+        }
     }
 }

@@ -31,6 +31,6 @@ pub use statement_laws::{
     triggers_are_stored, values_are_reset, values_are_stored,
 };
 pub use statements::{
-    call_statements, memory_statements, reset_call_statements, ring_statements, trigger_statements,
-    value_reset_statements, value_statements,
+    DelayStep, call_statements, reset_call_statements, trigger_statements, value_reset_statements,
+    value_statements,
 };

@@ -146,21 +146,14 @@ fn term_factor(minus: u32, common: u8, place: usize, frac: u8) -> i64
     )
 }
 
-/// A number of a total and the term for an input.
-fn with_term(
-    minus: u32,
-    common: u8,
-    place: usize,
-    frac: u8,
-    types: &[FixType],
-    total: Option<Range>,
-) -> Option<Range>
+/// The term of a sum for an input of `frac` fraction bits, in the unit of 2^-common; bit `place` of `minus` subtracts it.
+fn term_range(minus: u32, common: u8, place: usize, frac: u8, types: &[FixType]) -> Option<Range>
     requires place { place < 16 }
     requires unit { common ≤ 31 }
-    ensures { result ≡ rule.with_term minus common place frac types.now total }
+    ensures { result ≡ rule.term_range minus common place frac types.now }
 {
     let factor = term_factor(minus, common, place, frac);
-    added(total, multiplied(input_range(types, place), just(factor)))
+    multiplied(input_range(types, place), just(factor))
 }
 
 /// The sum of inputs of so many fraction bits, in the finest of their units; bit i of `minus` subtracts input i + 1.
@@ -172,7 +165,7 @@ pub(crate) fn sum_range(minus: u32, common: u8, fracs: &[u8], types: &[FixType])
 {
     let mut total = just(0);
     for (i, frac) in fracs.iter().enumerate() {
-        total = with_term(minus, common, i, *frac, types, total);
+        total = added(total, term_range(minus, common, i, *frac, types));
     }
     total
 }

@@ -9,7 +9,7 @@ ghost use Rattle.emit_row_code.specs.RowCode as code;
 ghost use Rattle.emit_row_code.specs.Ranges as numbers;
 ghost use Rattle.emit_row_code.specs.Resolved.{IsRowOp};
 
-use crate::conversion::{aligned, converted};
+use crate::conversion::{Conversion, aligned};
 use crate::exact::{product, sum};
 use crate::expression::{binary, truth, written};
 use crate::laws::row_ops_are_writable;
@@ -46,156 +46,115 @@ fn comparison(alloc: Global, how: Compare, fracs: &[u8], inputs: &[Leaf]) -> Res
     truth(alloc, Cond::Compare(how, left, right))
 }
 
-/// The sum of inputs of so many fraction bits, converted into a type; bit i of `minus` subtracts input i + 1.
-fn converted_sum(
-    alloc: Global,
-    minus: u32,
-    fracs: &[u8],
-    inputs: &[Leaf],
-    types: &[FixType],
-    to: FixType,
-    how: How,
-) -> Result<Expr, Memory>
-    requires few { length fracs.now ≤ 16 }
-    requires unit { greatest_in fracs.now ≤ 31 }
-    ensures { let common = greatest_in fracs.now in IfOk result
-        (λ e. expr_tree e ≡ code.converted (code.sum_code minus common fracs.now inputs.now) common
-        (numbers.sum_range minus common 0 fracs.now types.now (numbers.just (pos 0))) to how) }
-{
-    let common = greatest_frac(fracs);
-    let range = sum_range(minus, common, fracs, types);
-    let exact = sum(alloc, minus, fracs, inputs)?;
-    converted(alloc, exact, u32::from(common), range, to, how)
-}
+impl<'a> Conversion<'a> {
+    /// The sum of inputs of so many fraction bits, converted; bit i of `minus` subtracts input i + 1.
+    fn converted_sum(&self, alloc: Global, minus: u32, fracs: &[u8]) -> Result<Expr, Memory>
+        requires few { length fracs.now ≤ 16 }
+        requires unit { greatest_in fracs.now ≤ 31 }
+        ensures { let row = self.now in let common = greatest_in fracs.now in IfOk result
+            (λ e. expr_tree e ≡ code.converted (code.sum_code minus common fracs.now row.inputs.now)
+            common (numbers.sum_range minus common 0 fracs.now row.types.now
+            (numbers.just (pos 0))) row.to row.how) }
+    {
+        let common = greatest_frac(fracs);
+        let range = sum_range(minus, common, fracs, self.types);
+        let exact = sum(alloc, minus, fracs, self.inputs)?;
+        self.converted(alloc, exact, u32::from(common), range)
+    }
 
-/// An input of `frac` fraction bits, by its place, converted into a type.
-fn converted_input(
-    alloc: Global,
-    inputs: &[Leaf],
-    types: &[FixType],
-    place: usize,
-    frac: u8,
-    to: FixType,
-    how: How,
-) -> Result<Expr, Memory>
-    requires { frac ≤ 31 }
-    ensures { IfOk result
-        (λ e. expr_tree e ≡ code.converted_input inputs.now types.now place frac to how) }
-{
-    let range = input_range(types, place);
-    converted(alloc, input(inputs, place), u32::from(frac), range, to, how)
-}
+    /// An input of `frac` fraction bits, by its place, converted.
+    fn converted_input(&self, alloc: Global, place: usize, frac: u8) -> Result<Expr, Memory>
+        requires { frac ≤ 31 }
+        ensures { let row = self.now in IfOk result (λ e. expr_tree e
+            ≡ code.converted_input row.inputs.now row.types.now place frac row.to row.how) }
+    {
+        let range = input_range(self.types, place);
+        self.converted(alloc, input(self.inputs, place), u32::from(frac), range)
+    }
 
-/// The same in a box.
-fn boxed_input(
-    alloc: Global,
-    inputs: &[Leaf],
-    types: &[FixType],
-    place: usize,
-    frac: u8,
-    to: FixType,
-    how: How,
-) -> Result<Box<Expr>, Memory>
-    requires { frac ≤ 31 }
-    ensures { IfOk result
-        (λ e. expr_tree e.value ≡ code.converted_input inputs.now types.now place frac to how) }
-{
-    Ok(Box::new(
-        alloc,
-        converted_input(alloc, inputs, types, place, frac, to, how)?,
-    )?)
-}
+    /// The same in a box.
+    fn boxed_input(&self, alloc: Global, place: usize, frac: u8) -> Result<Box<Expr>, Memory>
+        requires { frac ≤ 31 }
+        ensures { let row = self.now in IfOk result (λ e. expr_tree e.value
+            ≡ code.converted_input row.inputs.now row.types.now place frac row.to row.how) }
+    {
+        Ok(Box::new(alloc, self.converted_input(alloc, place, frac)?)?)
+    }
 
-/// The first input where a test holds, else the third one, each converted into a type; `first` says which one, where it's known.
-fn converted_either(
-    alloc: Global,
-    first: Option<bool>,
-    test: Box<Cond>,
-    fracs: [u8; 2],
-    inputs: &[Leaf],
-    types: &[FixType],
-    to: FixType,
-    how: How,
-) -> Result<Expr, Memory>
-    requires first_unit { get_or fracs 0 0 ≤ 31 }
-    requires third_unit { get_or fracs 1 0 ≤ 31 }
-    ensures { IfOk result (λ e. expr_tree e ≡ code.either_code first (cond_tree test.value)
-        (code.converted_input inputs.now types.now 0 (get_or fracs 0 0) to how)
-        (code.converted_input inputs.now types.now 2 (get_or fracs 1 0) to how)) }
-{
-    let on_true = boxed_input(alloc, inputs, types, 0, fracs[0], to, how)?;
-    let on_false = boxed_input(alloc, inputs, types, 2, fracs[1], to, how)?;
-    Ok(match first {
-        Some(true) => Box::into_inner(on_true),
-        Some(false) => Box::into_inner(on_false),
-        None => Expr::Pick(test, on_true, on_false),
-    })
-}
+    /// The first input where a test holds, else the third one, each converted; `first` says which one, where it's known.
+    fn converted_either(
+        &self,
+        alloc: Global,
+        first: Option<bool>,
+        test: Box<Cond>,
+        fracs: [u8; 2],
+    ) -> Result<Expr, Memory>
+        requires first_unit { get_or fracs 0 0 ≤ 31 }
+        requires third_unit { get_or fracs 1 0 ≤ 31 }
+        ensures { let row = self.now in IfOk result
+            (λ e. expr_tree e ≡ code.either_code first (cond_tree test.value)
+            (code.converted_input row.inputs.now row.types.now 0 (get_or fracs 0 0) row.to row.how)
+            (code.converted_input row.inputs.now row.types.now 2 (get_or fracs 1 0)
+            row.to row.how)) }
+    {
+        let on_true = self.boxed_input(alloc, 0, fracs[0])?;
+        let on_false = self.boxed_input(alloc, 2, fracs[1])?;
+        Ok(match first {
+            Some(true) => Box::into_inner(on_true),
+            Some(false) => Box::into_inner(on_false),
+            None => Expr::Pick(test, on_true, on_false),
+        })
+    }
 
-/// The product of all inputs, of `frac` fraction bits together, converted into a type.
-fn converted_product(
-    alloc: Global,
-    count: u8,
-    frac: u16,
-    inputs: &[Leaf],
-    types: &[FixType],
-    to: FixType,
-    how: How,
-) -> Result<Expr, Memory>
-    requires { frac - to.frac ≤ 62 }
-    ensures { IfOk result (λ e. expr_tree e ≡ code.converted (code.product_code inputs.now) frac
-        (numbers.product_range count types.now) to how) }
-{
-    let range = product_range(count, types);
-    let exact = product(alloc, inputs)?;
-    converted(alloc, exact, u32::from(frac), range, to, how)
-}
+    /// The product of all inputs, of `frac` fraction bits together, converted.
+    fn converted_product(&self, alloc: Global, count: u8, frac: u16) -> Result<Expr, Memory>
+        requires { frac - self.now.to.frac ≤ 62 }
+        ensures { let row = self.now in IfOk result (λ e. expr_tree e
+            ≡ code.converted (code.product_code row.inputs.now) frac
+            (numbers.product_range count row.types.now) row.to row.how) }
+    {
+        let range = product_range(count, self.types);
+        let exact = product(alloc, self.inputs)?;
+        self.converted(alloc, exact, u32::from(frac), range)
+    }
 
-/// The first input where the second one passes a criterion, else the third one, each converted into a type.
-fn switched(
-    alloc: Global,
-    criterion: Criterion,
-    threshold: i64,
-    fracs: [u8; 2],
-    inputs: &[Leaf],
-    types: &[FixType],
-    to: FixType,
-    how: How,
-) -> Result<Expr, Memory>
-    requires threshold_fits { unsigned_abs threshold < 2 ^ 63 }
-    requires first_unit { get_or fracs 0 0 ≤ 31 }
-    requires third_unit { get_or fracs 1 0 ≤ 31 }
-    ensures { IfOk result (λ e. expr_tree e ≡ code.either_code
-        (option_and_then (code.passes_all criterion threshold) (numbers.input_range types.now 1))
-        (code.passes_code criterion (code.input_code inputs.now 1) threshold)
-        (code.converted_input inputs.now types.now 0 (get_or fracs 0 0) to how)
-        (code.converted_input inputs.now types.now 2 (get_or fracs 1 0) to how)) }
-{
-    let first = passes_all(criterion, threshold, input_range(types, 1));
-    let test = passes(alloc, criterion, input(inputs, 1), threshold)?;
-    let test = Box::new(alloc, test)?;
-    converted_either(alloc, first, test, fracs, inputs, types, to, how)
-}
+    /// The first input where the second one passes a criterion, else the third one, each converted.
+    fn switched(
+        &self,
+        alloc: Global,
+        criterion: Criterion,
+        threshold: i64,
+        fracs: [u8; 2],
+    ) -> Result<Expr, Memory>
+        requires threshold_fits { unsigned_abs threshold < 2 ^ 63 }
+        requires first_unit { get_or fracs 0 0 ≤ 31 }
+        requires third_unit { get_or fracs 1 0 ≤ 31 }
+        ensures { let row = self.now in IfOk result (λ e. expr_tree e ≡ code.either_code
+            (option_and_then (code.passes_all criterion threshold)
+            (numbers.input_range row.types.now 1))
+            (code.passes_code criterion (code.input_code row.inputs.now 1) threshold)
+            (code.converted_input row.inputs.now row.types.now 0 (get_or fracs 0 0) row.to row.how)
+            (code.converted_input row.inputs.now row.types.now 2 (get_or fracs 1 0)
+            row.to row.how)) }
+    {
+        let first = passes_all(criterion, threshold, input_range(self.types, 1));
+        let test = passes(alloc, criterion, input(self.inputs, 1), threshold)?;
+        let test = Box::new(alloc, test)?;
+        self.converted_either(alloc, first, test, fracs)
+    }
 
-/// The first input, of a gain, times `m` and of `frac` fraction bits then, converted into a type.
-fn converted_gain(
-    alloc: Global,
-    m: i64,
-    frac: u8,
-    inputs: &[Leaf],
-    types: &[FixType],
-    to: FixType,
-    how: How,
-) -> Result<Expr, Memory>
-    requires factor_fits { unsigned_abs m < 2 ^ 63 }
-    requires unit { frac - to.frac ≤ 62 }
-    ensures { IfOk result (λ e. expr_tree e ≡ code.converted
-        (tree.binary Mul (code.input_code inputs.now 0) (code.written m)) frac
-        (numbers.gain_range m types.now) to how) }
-{
-    let factor = written(alloc, m)?;
-    let exact = binary(alloc, BinOp::Mul, input(inputs, 0), factor)?;
-    converted(alloc, exact, u32::from(frac), gain_range(m, types), to, how)
+    /// The first input, of a gain, times `m` and of `frac` fraction bits then, converted.
+    fn converted_gain(&self, alloc: Global, m: i64, frac: u8) -> Result<Expr, Memory>
+        requires factor_fits { unsigned_abs m < 2 ^ 63 }
+        requires unit { frac - self.now.to.frac ≤ 62 }
+        ensures { let row = self.now in IfOk result (λ e. expr_tree e ≡ code.converted
+            (tree.binary Mul (code.input_code row.inputs.now 0) (code.written m)) frac
+            (numbers.gain_range m row.types.now) row.to row.how) }
+    {
+        let factor = written(alloc, m)?;
+        let exact = binary(alloc, BinOp::Mul, input(self.inputs, 0), factor)?;
+        self.converted(alloc, exact, u32::from(frac), gain_range(m, self.types))
+    }
 }
 
 /// 1 where a logical operator over inputs holds, else 0.
@@ -228,7 +187,15 @@ pub fn value_code(
         Op::Copy => Ok(input(inputs, 0)),
         Op::Value(v) => written(alloc, v),
         Op::Delay(_) | Op::Line { .. } => Ok(memory),
-        Op::Gain { m, frac, to, how } => converted_gain(alloc, m, frac, inputs, types, to, how),
+        Op::Gain { m, frac, to, how } => {
+            Conversion {
+                inputs,
+                types,
+                to,
+                how,
+            }
+            .converted_gain(alloc, m, frac)
+        }
         Op::Sum {
             count,
             minus,
@@ -237,24 +204,50 @@ pub fn value_code(
             how,
         } => {
             let fracs = &fracs[..usize::from(count)];
-            converted_sum(alloc, minus, fracs, inputs, types, to, how)
+            Conversion {
+                inputs,
+                types,
+                to,
+                how,
+            }
+            .converted_sum(alloc, minus, fracs)
         }
         Op::Product {
             count,
             frac,
             to,
             how,
-        } => converted_product(alloc, count, frac, inputs, types, to, how),
+        } => Conversion {
+            inputs,
+            types,
+            to,
+            how,
+        }
+        .converted_product(alloc, count, frac),
         Op::Switch {
             criterion,
             threshold,
             fracs,
             to,
             how,
-        } => switched(alloc, criterion, threshold, fracs, inputs, types, to, how),
+        } => Conversion {
+            inputs,
+            types,
+            to,
+            how,
+        }
+        .switched(alloc, criterion, threshold, fracs),
         Op::Relational { compare, fracs } => comparison(alloc, compare, &fracs, inputs),
         Op::Logic { op, .. } => logic_value(alloc, op, inputs),
-        Op::Convert { frac, to, how } => converted_input(alloc, inputs, types, 0, frac, to, how),
+        Op::Convert { frac, to, how } => {
+            Conversion {
+                inputs,
+                types,
+                to,
+                how,
+            }
+            .converted_input(alloc, 0, frac)
+        }
         Op::Nothing => Ok(Expr::Literal(0)),
     }
 }

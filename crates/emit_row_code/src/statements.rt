@@ -131,47 +131,67 @@ fn memory_stores(
     Ok((taken, started))
 }
 
-/// The statements for the memory of a delay of one sample: it takes the input where the row runs, and else its start where
-/// the system is off. `runs` always holds where it is `None`, and `off` never.
-///
-/// Fails only when memory runs out.
-pub fn memory_statements(
-    alloc: Global,
-    field: u32,
-    runs: Option<Cond>,
-    input: Leaf,
-    off: Option<Cond>,
-    start: i64,
-) -> Result<Vec<Stmt>, Memory>
-    requires { unsigned_abs start < 2 ^ 63 }
-    ensures { IfOk result (λ v. stmts_of_list (map stmt_tree v.items)
-        ≡ code.memory_statements field (option_map cond_tree runs) input
-        (option_map cond_tree off) start) }
-{
-    let (taken, started) = memory_stores(alloc, field, input, start)?;
-    let begun = only_if(alloc, off, started)?;
-    guarded(alloc, runs, taken, begun)
+/// What a delay does at a tick: it takes what its input reads where the row runs, and else it begins anew where the system
+/// is off. `runs` always holds where it is `None`, and `off` never.
+#[derive(Drop)]
+pub struct DelayStep {
+    /// The test that the row runs.
+    pub runs: Option<Cond>,
+    /// Where its input is read.
+    pub input: Leaf,
+    /// The test that the system is off.
+    pub off: Option<Cond>,
 }
 
-/// The statements for the memory of a delay of `length` samples, under the same tests: it takes the input in place of its
-/// oldest sample, and it is emptied.
-///
-/// Fails only when memory runs out.
-pub fn ring_statements(
-    alloc: Global,
-    ring: RingFields,
-    length: u32,
-    runs: Option<Cond>,
-    input: Leaf,
-    off: Option<Cond>,
-) -> Result<Vec<Stmt>, Memory>
-    ensures { IfOk result (λ v. stmts_of_list (map stmt_tree v.items)
-        ≡ code.ring_statements ring length (option_map cond_tree runs) input
-        (option_map cond_tree off)) }
-{
-    let taken = taken_in(alloc, ring, length, input)?;
-    let begun = only_if(alloc, off, emptied(alloc, ring)?)?;
-    guarded(alloc, runs, taken, begun)
+impl DelayStep {
+    /// Statements that take the input, or that begin anew, each where it's done.
+    fn chosen(self, alloc: Global, taken: Vec<Stmt>, begun: Vec<Stmt>) -> Result<Vec<Stmt>, Memory>
+        ensures { IfOk result (λ v. stmts_of_list (map stmt_tree v.items)
+            ≡ code.guarded (option_map cond_tree self.runs)
+            (stmts_of_list (map stmt_tree taken.items))
+            (code.only_if (option_map cond_tree self.off)
+            (stmts_of_list (map stmt_tree begun.items)))) }
+    {
+        let begun = only_if(alloc, self.off, begun)?;
+        guarded(alloc, self.runs, taken, begun)
+    }
+
+    /// The statements for the memory of a delay of one sample, in the own field at a position, with its start.
+    ///
+    /// Fails only when memory runs out.
+    pub fn memory_statements(
+        self,
+        alloc: Global,
+        field: u32,
+        start: i64,
+    ) -> Result<Vec<Stmt>, Memory>
+        requires { unsigned_abs start < 2 ^ 63 }
+        ensures { IfOk result (λ v. stmts_of_list (map stmt_tree v.items)
+            ≡ code.memory_statements field (option_map cond_tree self.runs) self.input
+            (option_map cond_tree self.off) start) }
+    {
+        let (taken, started) = memory_stores(alloc, field, self.input, start)?;
+        self.chosen(alloc, taken, started)
+    }
+
+    /// The statements for the memory of a delay of `length` samples: it takes the input in place of its oldest sample, and
+    /// it is emptied.
+    ///
+    /// Fails only when memory runs out.
+    pub fn ring_statements(
+        self,
+        alloc: Global,
+        ring: RingFields,
+        length: u32,
+    ) -> Result<Vec<Stmt>, Memory>
+        ensures { IfOk result (λ v. stmts_of_list (map stmt_tree v.items)
+            ≡ code.ring_statements ring length (option_map cond_tree self.runs) self.input
+            (option_map cond_tree self.off)) }
+    {
+        let taken = taken_in(alloc, ring, length, self.input)?;
+        let emptied = emptied(alloc, ring)?;
+        self.chosen(alloc, taken, emptied)
+    }
 }
 
 /// The statements for what a trigger remembers. They are in the update, which is called only where the system around is

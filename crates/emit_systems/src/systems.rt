@@ -100,7 +100,12 @@ fn codes_inside(alloc: Global, r: &Resolved, s: &Subsystem) -> Result<Inside, Me
     }
     let local = local_with(alloc, r, s, &children)?;
     let profile = profile_of(alloc, r, s, &children)?;
-    let code = code_of(alloc, r, s, &children, &local, &profile)?;
+    let parts = Parts {
+        local: &local,
+        profile: &profile,
+        children: &children,
+    };
+    let code = parts.code(alloc, r, s)?;
     let mut codes = Vec::new(alloc);
     codes.push(code)?;
     codes.append(&mut inner)?;
@@ -112,29 +117,34 @@ fn codes_inside(alloc: Global, r: &Resolved, s: &Subsystem) -> Result<Inside, Me
     })
 }
 
-// The code of a system by its own rows and its profile, where its children have these profiles.
-fn code_of(
-    alloc: Global,
-    r: &Resolved,
-    s: &Subsystem,
-    children: &[Profile],
-    local: &Local,
-    own: &Profile,
-) -> Result<SystemCode, Memory>
-    requires no_loop { HasNoLoop (needs_of (diagram_of r.now)) }
-    requires system { Agrees r.now.tree.table.rows (system_of s.now) }
-    requires inside { IsInTable r.now.tree.table.rows (row_of (system_of s.now)) }
-    requires listed { Contains (systems r.now.tree.table.rows) (row_of (system_of s.now)) }
-    requires children { AreProfiles (diagram_of r.now) (row_of (system_of s.now)) children.now }
-    requires is_local { local.now
-        ≡ local_of (diagram_of r.now) r.now.times.delays (row_of (system_of s.now))
-        (headers_with (diagram_of r.now) children.now) }
-    requires local { IsLocalOf r.now (row_of (system_of s.now)) local.now }
-    requires profile { IsProfileOf (diagram_of r.now) (row_of (system_of s.now)) own.now }
-    ensures { IfOk result (λ code. IsCodeOf r.now (row_of (system_of s.now)) (system_tree code)) }
-{
-    r.is_resolved();
-    let nodes = system_nodes(alloc, r, s, children)?;
-    let schedule = schedule_of_system(alloc, local, own, &nodes)?;
-    emit_system(alloc, local, own, &schedule)
+// What the code of a system is made from: its own rows, its profile, and those of its children.
+#[derive(Clone, Copy, Drop)]
+struct Parts<'a> {
+    local: &'a Local,
+    profile: &'a Profile,
+    children: &'a [Profile],
+}
+
+impl<'a> Parts<'a> {
+    // The code of the system.
+    fn code(&self, alloc: Global, r: &Resolved, s: &Subsystem) -> Result<SystemCode, Memory>
+        requires no_loop { HasNoLoop (needs_of (diagram_of r.now)) }
+        requires system { Agrees r.now.tree.table.rows (system_of s.now) }
+        requires inside { IsInTable r.now.tree.table.rows (row_of (system_of s.now)) }
+        requires listed { Contains (systems r.now.tree.table.rows) (row_of (system_of s.now)) }
+        requires children { AreProfiles (diagram_of r.now) (row_of (system_of s.now))
+            self.now.children.now }
+        requires is_local { self.now.local.now
+            ≡ local_of (diagram_of r.now) r.now.times.delays (row_of (system_of s.now))
+            (headers_with (diagram_of r.now) self.now.children.now) }
+        requires local { IsLocalOf r.now (row_of (system_of s.now)) self.now.local.now }
+        requires profile { IsProfileOf (diagram_of r.now) (row_of (system_of s.now))
+            self.now.profile.now }
+        ensures { IfOk result (λ code. IsCodeOf r.now (row_of (system_of s.now)) (system_tree code)) }
+    {
+        r.is_resolved();
+        let nodes = system_nodes(alloc, r, s, self.children)?;
+        let schedule = schedule_of_system(alloc, self.local, self.profile, &nodes)?;
+        emit_system(alloc, self.local, self.profile, &schedule)
+    }
 }

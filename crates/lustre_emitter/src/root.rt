@@ -80,24 +80,31 @@ fn root_names(alloc: Global, inputs: usize, outputs: usize) -> Result<Vec<(Text,
     Ok(names)
 }
 
-// The equations of the root with so many inputs and outputs, which has these names.
+// How many ticks a root has until all hits repeat, how many inputs and how many outputs.
+#[derive(Clone, Copy, Drop)]
+struct RootCounts {
+    hyper: u32,
+    inputs: usize,
+    outputs: usize,
+}
+
+// The equations of a root with these names.
 fn root_equations(
     alloc: Global,
     callees: &Callees,
     names: &[(Text, bool)],
-    hyper: u32,
-    inputs: usize,
-    outputs: usize,
+    counts: RootCounts,
 ) -> Result<Vec<LusEq>, Memory>
     ensures { IfOk result (λ v. map equation_tree v.items
         ≡ map
         (renamed_equation (place_of (map (λ x. x.0) names.now)) (place_in callees.now.places.now))
-        (parts.equations_of hyper inputs outputs)) }
+        (parts.equations_of counts.hyper counts.inputs counts.outputs)) }
 {
     let places = places_of_names(alloc, names)?;
     let mut equations = Vec::new(alloc);
-    equations.push(now_equation(alloc, &places, hyper)?)?;
-    equations.push(top_equation(alloc, callees, &places, inputs, outputs)?)?;
+    equations.push(now_equation(alloc, &places, counts.hyper)?)?;
+    let top = top_equation(alloc, callees, &places, counts.inputs, counts.outputs)?;
+    equations.push(top)?;
     Ok(equations)
 }
 
@@ -110,7 +117,12 @@ pub(crate) fn root_node(alloc: Global, r: &Resolved, callees: &Callees) -> Resul
     let outputs = port_count(alloc, r, true)?;
     let names = root_names(alloc, inputs, outputs)?;
     let hyper = hyper_of(r);
-    let equations = root_equations(alloc, callees, names.as_slice(), hyper, inputs, outputs)?;
+    let counts = RootCounts {
+        hyper,
+        inputs,
+        outputs,
+    };
+    let equations = root_equations(alloc, callees, names.as_slice(), counts)?;
     Ok(LusNode {
         name: named(alloc, "root")?,
         line: 0,

@@ -18,7 +18,7 @@ abbrev pub decreases-push_neighbours : goal.decreases-push_neighbours
 decreases-push_neighbours l = 8 * stmt_depth (choice_tree l.first) + 2
 
 abbrev pub decreases-joined_choice : goal.decreases-joined_choice
-decreases-joined_choice l = 8 * max (stmts_depth (standing l.yes.items)) (stmts_depth (standing l.no.items)) + 6
+decreases-joined_choice l = 8 * max (stmts_depth (standing l.first.yes.items)) (stmts_depth (standing l.first.no.items)) + 6
 
 abbrev pub decreases-joined : goal.decreases-joined
 decreases-joined l = 8 * stmts_depth (standing l.first.items) + 5

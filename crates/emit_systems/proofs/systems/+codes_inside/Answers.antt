@@ -43,8 +43,8 @@ profile_of-requires-clause-children t c =
     (all-children c.args.s.now c.deref-child-items.result.now c.deref-child-items.ensures.value i c.loop-child-test.false)
     c.deref-2.ensures.value c.loop-child.invariant.0
 
-pub code_of-requires-clause-children : goal.code_of-requires-clause-children
-code_of-requires-clause-children t c =
+pub code-requires-clause-children : goal.code-requires-clause-children
+code-requires-clause-children t c =
     let i = c.loop-child.child-index in
     all-profiles c.args.r.now (system_of c.args.s.now) c.loop-child.children.items c.deref-3.result.now
     (map system_tree c.loop-child.inner.items) i c.requires.system

@@ -13,10 +13,10 @@ returns c =
     let texts = place_of (map (λ x. x.0) c.args.names.now) in
     let callee = place_in c.args.callees.now.places.now in
     let now = c.in_ok-now_equation.ensures callee
-    ∙ equation-alike places texts c.in_ok-places.ensures callee (now_equation c.args.hyper) in
-    let top = c.in_ok-top_equation.ensures
-    ∙ equation-alike places texts c.in_ok-places.ensures callee (top_equation c.args.inputs c.args.outputs) in
+    ∙ equation-alike places texts c.in_ok-places.ensures callee (now_equation c.args.counts.hyper) in
+    let top = c.in_ok-top.ensures
+    ∙ equation-alike places texts c.in_ok-places.ensures callee (top_equation c.args.counts.inputs c.args.counts.outputs) in
     ap (λ (es : List LusEq). map equation_tree es)
-    (c.in_ok-push-2.ensures.items ∙ ap (λ (es : List LusEq). es ++ c.in_ok-top_equation.field-0 ∷ [])
+    (c.in_ok-push-2.ensures.items ∙ ap (λ (es : List LusEq). es ++ c.in_ok-top.top ∷ [])
     (c.in_ok-push.ensures.items ∙ ap (λ (es : List LusEq). es ++ c.in_ok-now_equation.field-0 ∷ []) c.new-equations.ensures.items))
     ∙ (λ i. now i ∷ top i ∷ [])
