@@ -5,3 +5,5 @@ pub mod OneVerdict
 pub mod FaultLaws
 pub mod LoopRows
 pub mod DelaySums
+pub mod TreeVerdicts
+pub mod Results

@@ -28,7 +28,7 @@ pub record Laws : Type 0 where
 -- ---- A table
 
 -- what is said after the loops, by the refusal of the delays
-abbrev settled : Option PlainRefusal → ResolvedTable → Verdict
+abbrev pub settled : Option PlainRefusal → ResolvedTable → Verdict
 settled (Some refusal) r = Refused refusal
 settled None r = Accepted r
 
@@ -37,7 +37,7 @@ abbrev behind_loops : ResolvedTable → Verdict
 behind_loops r = settled (delay_refusal r.table.rows) r
 
 -- what the verdicts on a table are
-data OfTable (table : RowTable) : Verdict → Type 0 where
+pub data OfTable (table : RowTable) : Verdict → Type 0 where
   ill_typed : (refusal : PlainRefusal) → type_refusal table.rows ≡ Some refusal → OfTable table (Refused refusal)
   ill_timed : (refusal : PlainRefusal) → type_refusal table.rows ≡ None → HasTimeRefusal table (Some refusal) →
       OfTable table (Refused refusal)
@@ -125,7 +125,7 @@ module _ (laws : Laws) (table : RowTable) where
   of-times formed right (Some refusal) h = (Refused refusal, ill_timed refusal right h, only-ill_timed refusal right h)
   of-times formed right None h = let some = resolution-is-there laws.have_times table formed right h in of-resolution some.0 some.1
 
-  of-table : IsWellFormed table → OneOfTable table
+  pub of-table : IsWellFormed table → OneOfTable table
   of-table formed = by (type_refusal table.rows) refl
     where
       by : (found : Option PlainRefusal) → type_refusal table.rows ≡ found → OneOfTable table
@@ -139,7 +139,7 @@ data View (bytes : List ℕ) : Verdict → Type 0 where
   of_file : (refusal : PlainRefusal) → HasFileVerdict bytes (file.Refused refusal) → View bytes (Refused refusal)
   of_model : (table : RowTable) (verdict : Verdict) → IsModelWith bytes table → OfTable table verdict → View bytes verdict
 
-own : (r : ResolvedTable) → IsResolvedTable r → IsOf r.table r
+pub own : (r : ResolvedTable) → IsResolvedTable r → IsOf r.table r
 own r resolved = record { of_table = refl; resolved = resolved }
 
 view : (bytes : List ℕ) (verdict : Verdict) → HasVerdict bytes verdict → View bytes verdict

@@ -1,5 +1,7 @@
 ghost use Rattle.std.specs.Prelude.{ℕ, List};
+ghost use Rattle.mdl_tree.specs.Spelling.{Items};
 ghost use Rattle.diagram_verdict.specs.Files.{AcceptedTablesAreWellFormed, HasOneFileVerdict};
+ghost use Rattle.diagram_verdict.specs.TreeVerdict.{HasOneTreeVerdict, TreeVerdictIsOfFile};
 ghost use Rattle.diagram_verdict.specs.Verdict.{HasOneVerdict};
 
 use diagram_meaning::{
@@ -31,6 +33,26 @@ pub fn one_verdict()
 {
     one_file_verdict();
     accepted_tables_are_well_formed();
+    tables_have_times();
+    times_are_one();
+    time_refusal_is_there();
+    time_refusal_is_one();
+    loop_is_told_or_none();
+    told_loop_is_one();
+}
+
+/// The verdict on the tree of a file is the verdict on the file.
+pub fn tree_verdict_is_of_file()
+    ensures { TreeVerdictIsOfFile }
+{}
+
+/// Each tree has one verdict and no other.
+pub fn one_tree_verdict()
+    ensures { (file : Items) → HasOneTreeVerdict file }
+{
+    tree_has_table();
+    tree_has_one_table();
+    tree_table_is_well_formed();
     tables_have_times();
     times_are_one();
     time_refusal_is_there();

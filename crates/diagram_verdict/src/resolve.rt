@@ -1,10 +1,7 @@
-ghost use Rattle.std.specs.Prelude.{◌≡◌, IfErr, IfOk, None, OnOk};
+ghost use Rattle.std.specs.Prelude.{IfErr, IfOk};
 ghost use Rattle.mdl_tree.specs.Values.{section_tree};
-ghost use Rattle.mdl_rows.specs.Refusals.{tree_refusal};
 ghost use Rattle.diagram_meaning.specs.ResolvedTable.{table_of_tree};
-ghost use Rattle.diagram_verdict.specs.Faults.{IsFaultOf};
-ghost use Rattle.diagram_verdict.specs.Files.{OfTexts};
-ghost use Rattle.diagram_verdict.specs.Verdict.{IsModelOf};
+ghost use Rattle.diagram_verdict.specs.TreeVerdict.{IsTreeFaultOf, IsTreeOf};
 
 use crate::fault::ModelFault;
 use diagram_meaning::{Resolved, resolve_all};
@@ -16,11 +13,9 @@ use std::alloc::Global;
 
 /// The resolved tree of a model's sections. `Refused` comes exactly where the tree, a type or a sample time is refused.
 pub(crate) fn resolve_model(alloc: Global, file: &Section) -> Result<Resolved, ModelFault>
-    ensures sound { OnOk result (tree_refusal (section_tree file.now).items ≡ None) }
-    ensures model { IfOk result (λ r. OfTexts (section_tree file.now).items
-        (λ bytes. IsModelOf bytes (table_of_tree r))) }
-    ensures fault { IfErr result (λ fault. OfTexts (section_tree file.now).items
-        (λ bytes. IsFaultOf bytes fault)) }
+    ensures model { IfOk result
+        (λ r. IsTreeOf (section_tree file.now).items (table_of_tree r)) }
+    ensures fault { IfErr result (IsTreeFaultOf (section_tree file.now).items) }
 {
     let tree = build(alloc, file)?;
     let types = infer_types(alloc, &tree)?;

@@ -1,55 +1,32 @@
-use Rattle.std.proofs.Common.{◌≡◌, sym, ◌∙◌, ap, subst, inl, inr}
-use Rattle.std.specs.List.{AllByRecursion}
-use Rattle.base_refusals.specs.Refusals.{plain_refusal}
-use Rattle.diagram_meaning.specs.RowTable.{RowTable}
-use Rattle.diagram_meaning.specs.ResolvedTree.{ResolvedTree, diagram_of}
+use Rattle.std.proofs.Common.{◌≡◌, None}
+use Rattle.mdl_tree.specs.Values.{section_tree}
+use Rattle.mdl_rows.specs.Refusals.{tree_refusal}
+use Rattle.diagram_meaning.specs.ResolvedTree.{ResolvedTree}
 use Rattle.diagram_meaning.specs.ResolvedTable.{table_of_tree}
-use Rattle.diagram_meaning.specs.DelayRefusals.{delay_refusal}
-use Rattle.diagram_meaning.specs.WellFormed.{IsRow}
-use Rattle.diagram_meaning.specs.Needs.{needs_of, HasNoLoop}
-use Rattle.diagram_verdict.specs.Verdict.{TellsLoop}
-use Rattle.diagram_verdict.specs.Faults.{TellsLoopOf}
+use Rattle.diagram_verdict.specs.Faults.{IsFaultOf}
+use Rattle.diagram_verdict.specs.Files.{OfTexts}
+use Rattle.diagram_verdict.specs.Verdict.{Accepted, HasVerdict}
+use Rattle.diagram_verdict.specs.TreeVerdict.{HasTreeVerdict, IsTreeFaultOf}
+use Rattle.diagram_verdict.proofs.Results.{ok-later, ok-on, error-later}
+use Rattle.diagram_verdict.proofs.TreeVerdicts.{is_of_file, is_fault_of_file}
 use Rattle.diagram_verdict.proofs.accept.accept_sections.Goals as goal
 
-pub refusal_of_delays-requires : goal.refusal_of_delays-requires
-refusal_of_delays-requires c =
-    let rows : c.deref.result.now ≡ c.table.result.now.rows =
-    c.deref.ensures.value ∙ ap (λ (t : RowTable). t.rows) c.behind-resolved.view_is in
-    subst (AllByRecursion IsRow) (sym rows)
-    (subst (λ (t : RowTable). AllByRecursion IsRow t.rows)
-    (sym c.table.ensures.table) c.table.ensures.diagram.table.each)
-
-pub returns-in-Some-clause-refused : goal.returns-in-Some-clause-refused
-returns-in-Some-clause-refused c =
-    let d = diagram_of c.in_ok-resolved.resolved in
-    let told : TellsLoop d (plain_refusal c.in-Some.refusal) =
-    subst (TellsLoopOf d) c.in-Some.is c.in_ok-refusal.ensures in
-    λ bytes is. inr (inr (inr (inl (table_of_tree c.in_ok-resolved.resolved, c.in_ok-resolved.ensures.model bytes is, told))))
-
-pub returns-in-Some-refusal_of_delays-clause-refused : goal.returns-in-Some-refusal_of_delays-clause-refused
-returns-in-Some-refusal_of_delays-clause-refused c =
-    let r = table_of_tree c.in_ok-resolved.resolved in
-    let d = diagram_of c.in_ok-resolved.resolved in
-    let none : HasNoLoop (needs_of d) = subst (TellsLoopOf d) c.in_default.is c.in_ok-refusal.ensures in
-    let rows : c.deref.result.now ≡ r.table.rows =
-    c.deref.ensures.value ∙ ap (λ (t : RowTable). t.rows) (c.behind-resolved.view_is ∙ c.table.ensures.table)
-    ∙ ap (λ (r : ResolvedTree). r.tree.table.rows) c.resolved.view_is in
-    λ bytes is. inr (inr (inr (inr (
-      r,
-      (c.in_ok-resolved.ensures.model bytes is, none),
-      ap delay_refusal (sym rows) ∙ sym c.in-Some-refusal_of_delays.ensures,
-    ))))
+pub returns-clause-sound : goal.returns-clause-sound
+returns-clause-sound c =
+    let items = (section_tree c.args.file.now).items in
+    ok-on (λ (r : ResolvedTree). HasTreeVerdict items (Accepted (table_of_tree r))) (tree_refusal items ≡ None)
+    (λ r accepted. accepted.model.table.unrefused) c.accept_tree.result c.accept_tree.ensures.accepted
 
 pub returns-clause-accepted : goal.returns-clause-accepted
 returns-clause-accepted c =
-    let r = table_of_tree c.in_ok-resolved.resolved in
-    let d = diagram_of c.in_ok-resolved.resolved in
-    let none : HasNoLoop (needs_of d) = subst (TellsLoopOf d) c.in_default.is c.in_ok-refusal.ensures in
-    let rows : c.deref.result.now ≡ r.table.rows =
-    c.deref.ensures.value ∙ ap (λ (t : RowTable). t.rows) (c.behind-resolved.view_is ∙ c.table.ensures.table)
-    ∙ ap (λ (r : ResolvedTree). r.tree.table.rows) c.resolved.view_is in
-    λ bytes is. record {
-      model = c.in_ok-resolved.ensures.model bytes is;
-      no_loop = none;
-      short_delays = ap delay_refusal (sym rows) ∙ sym c.in_default-refusal_of_delays.ensures;
-    }
+    let items = (section_tree c.args.file.now).items in
+    ok-later (λ (r : ResolvedTree). HasTreeVerdict items (Accepted (table_of_tree r)))
+    (λ r. OfTexts items (λ bytes. HasVerdict bytes (Accepted (table_of_tree r))))
+    (λ r accepted bytes is. is_of_file bytes items (Accepted (table_of_tree r)) is accepted) c.accept_tree.result
+    c.accept_tree.ensures.accepted
+
+pub returns-clause-refused : goal.returns-clause-refused
+returns-clause-refused c =
+    let items = (section_tree c.args.file.now).items in
+    error-later (IsTreeFaultOf items) (λ fault. OfTexts items (λ bytes. IsFaultOf bytes fault)) (is_fault_of_file items)
+    c.accept_tree.result c.accept_tree.ensures.refused
