@@ -1,215 +1,318 @@
--- Runs over bytes, and over a file that is read in pieces.
-use Rattle.std.proofs.Common.{◌≡◌, ◌≢◌, refl, sym, ◌∙◌, ap, subst, ℕ, ◌+◌, List, [], ◌++◌, length, take, drop, append_assoc}
-use Rattle.std.specs.Prelude.{None, Result, Ok, Err, MatchResult}
-use Rattle.std.specs.Io.KnownBytes.{IsAtEnd}
-use Rattle.std.proofs.lemmas.List.{append-nil, take-append-drop}
-use Rattle.base_host.specs.Reading.{Source, HasRead}
-use Rattle.base_host.specs.Buffers.{ReadsOn}
-use Rattle.base_host.proofs.lemmas.ReadLaws.{read_nothing, read_both}
+-- Runs over bytes, and over a file.
+use Rattle.std.proofs.Common.{◌≡◌, ◌≢◌, refl, sym, ◌∙◌, ap, subst, ℕ, ◌+◌, List, [], ◌∷◌, ◌++◌, append_assoc, inl, inr}
+use Rattle.std.specs.Prelude.{◌⊎◌, ℤ, Option, None, Some, Ok, Err}
+use Rattle.std.specs.Io.KnownBytes.{append_known}
+use Rattle.std.proofs.lemmas.List.{append-nil}
+use Rattle.base_host.specs.Files.{PutsFront}
+use Rattle.base_host.specs.Reading.{Source}
+use Rattle.base_host.specs.Buffers.{PutsAllBut}
+use Rattle.base_host.proofs.lemmas.ReadLaws.{read_nothing}
 use Rattle.base_fixed_point.specs.declared.types.FixType.{FixType}
-use Rattle.tool_traces.specs.Lines.{whole_lines}
-use Rattle.tool_traces.specs.Rows.{Trace, rows_of, whole_rows_of, rows_behind}
-use Rattle.tool_traces.specs.Pieces.{rows_after, with_rows, BeginsLine}
+use Rattle.c_syntax.specs.declared.fault.Stuck.{Stuck}
+use Rattle.c_semantics.specs.Rows.{TickRow, Rows}
+use Rattle.c_interpreter.specs.States.{MachineState, fields_of}
+use Rattle.tool_traces.specs.declared.rows.BadLine.{BadLine}
+use Rattle.tool_traces.specs.Rows.{Trace, rows_behind}
+use Rattle.tool_traces.specs.Pieces.{with_rows}
+use Rattle.tool_stream.specs.declared.fault.StreamFault.{StreamFault}
+use Rattle.tool_stream.specs.declared.fault.StreamFault.TheVariants as stream
+use Rattle.tool_stream.specs.Walks.{place, Front, StopsFirst, WalksAll, StopsAt, CutAfter, StopsOver}
+use Rattle.tool_stream.specs.Files.{WalksFile}
+use Rattle.tool_stream.proofs.lemmas.Waiting.{all_put}
+use Rattle.tool_stream.proofs.lemmas.FilePieces.{left_of, is_left}
 use Rattle.tool_runner.specs.declared.outcome.Totals.{Totals}
-use Rattle.tool_runner.specs.declared.outcome.RunFault.{RunFault}
-use Rattle.tool_runner.specs.declared.outcome.RunFault.TheVariants.{Read, Out, Trace as BadTrace, Stuck as StuckFault, Memory}
-use Rattle.tool_runner.specs.Ticks.{Standing}
-use Rattle.tool_runner.specs.Runs.{no_totals, ticks_over, HasRun, RanWhole, StoppedBy, Ends, Parts, file_rows, StoppedReading, RunsOver}
-use Rattle.tool_runner.specs.Walks.{RunsThrough, RunsLines, RunsTo}
-use Rattle.tool_stream.proofs.lemmas.FilePieces.{left_of, is_left, none_left}
-use Rattle.tool_runner.proofs.Walks.{none_through, both_through, stops_in, ends_in, EndsLast, clear, runs_clear, stops_clear, ends_clear}
+use Rattle.tool_runner.specs.declared.outcome.RunFault.TheVariants.{Memory}
+use Rattle.tool_runner.specs.declared.outcome.RunStop.{RunStop}
+use Rattle.tool_runner.specs.declared.outcome.RunStop.TheVariants as stop
+use Rattle.tool_runner.specs.Texts.{ticks_text}
+use Rattle.tool_runner.specs.Faults.{run_fault}
+use Rattle.tool_runner.specs.Ticks.{Standing, standing}
+use Rattle.tool_runner.specs.Lines.{Stops, Sticks}
+use Rattle.tool_runner.specs.Runs.{no_totals, totals_of, added, ticks_over, HasTicked, HasRun, RanWhole, StoppedAtLine, StoppedStuck, StoppedByOut, StoppedBy, RunsOver}
+use Rattle.tool_runner.proofs.Standings.{ticks_behind, first_stuck}
+use Rattle.tool_runner.proofs.Steps.{Place, steps, said, stand, TicksOn, all_ticked}
 
--- before the first tick, the rows after no line are all
-rows_at_start : (s : Standing) (types : List FixType) (text : List ℕ) → s.totals ≡ no_totals →
-    rows_after s.totals.ticks types text ≡ rows_of text types
-rows_at_start s types text start = ap (λ (t : Totals). rows_after t.ticks types text) start
+-- why a line ends the walk
+abbrev pub stops : Place → List ℕ → RunStop → Place → Type 0
+stops at line why at' = Stops why line at.0 at'.0 at.1 at'.1
 
--- a last line after whole lines, as a run over both
-both_end : (result : Result (Unit {0}) RunFault) (head text : List ℕ) (types : List FixType) (s s' s'' : Standing) →
-    RunsThrough head types s s' →
-    EndsLast result (rows_after s'.totals.ticks types text) s' s'' → EndsLast result (rows_after s.totals.ticks types (head ++ text)) s s''
-both_end (Ok value) head text types s s' s'' through ends = ends_in head text types s s' s'' through ends
-both_end (Err fault) head text types s s' s'' through ends = stops_in fault head text types s s' s'' through ends
+module _ (types : List FixType) (at : Place) (same : at.0.types.now ≡ types) (none : at.0.totals ≡ no_totals)
+    (put put' : Option (List ℕ)) where
+  -- the rows of these lines
+  abbrev trace_of : List (List ℕ) → Trace
+  trace_of lines = rows_behind 0 types lines
 
-end_clear : (result : Result (Unit {0}) RunFault) (trace : Trace) (s s' : Standing) → s.waiting ≡ [] →
-    (result ≢ Err Out → s'.waiting ≡ []) → EndsLast result trace s s' →
-    Ends result trace (clear s) (clear s')
-end_clear (Ok value) trace s s' none none' ends = ends_clear trace s s' none (none' (λ e. cc)) ends
-end_clear (Err fault) trace s s' none none' ends =
-    stops_clear fault trace s s' none (λ other. none' (λ e. let same : fault ≡ Out = cc in other same)) ends
+  -- where the run begins, and where it is
+  abbrev begun : Standing
+  begun = standing at.1 no_totals put
 
--- ---- Bytes
+  abbrev now : Place → Standing
+  now at' = standing at'.1 at'.0.totals put'
 
-pub text_ends : (result : Result (Unit {0}) RunFault) (done : ℕ) (text : List ℕ) (types : List FixType)
-    (s s' s'' : Standing) → s.totals ≡ no_totals → s.waiting ≡ [] →
-    (result ≢ Err Out → s''.waiting ≡ []) → RunsLines done text types s s' →
-    EndsLast result (rows_after s'.totals.ticks types (drop done text)) s' s'' →
-    Ends result (rows_of text types) (clear s) (clear s'')
-text_ends result done text types s s' s'' start none none' lines last =
-    let whole : rows_after s.totals.ticks types (take done text ++ drop done text) ≡ rows_of text types =
-    ap (rows_after s.totals.ticks types) (take-append-drop done text) ∙ rows_at_start s types text start in
-    subst (λ t. Ends result t (clear s) (clear s'')) whole
-    (end_clear result _ s s'' none none' (both_end result (take done text) (drop done text) types s s' s'' lines.through last))
+  -- the rows of lines that were walked over, and of those after them
+  rows_are : (before behind : List (List ℕ)) (text : List ℕ) (at' : Place) (on : TicksOn before text at at') →
+      trace_of (before ++ behind) ≡ with_rows on.more (rows_behind at'.0.totals.ticks types behind)
+  rows_are before behind text at' on =
+      ap (λ (t : Totals). rows_behind t.ticks types (before ++ behind)) (sym none)
+      ∙ ap (λ ts. rows_behind at.0.totals.ticks ts (before ++ behind)) (sym same)
+      ∙ on.reads behind
+      ∙ ap (λ ts. with_rows on.more (rows_behind at'.0.totals.ticks ts behind)) same
 
-pub text_stops : (fault : RunFault) (text : List ℕ) (types : List FixType) (s s' : Standing) → s.totals ≡ no_totals →
-    s.waiting ≡ [] → (fault ≢ Out → s'.waiting ≡ []) →
-    ((behind : List ℕ) → RunsTo fault (rows_after s.totals.ticks types (text ++ behind)) s s') →
-    StoppedBy fault (rows_of text types) (clear s) (clear s')
-text_stops fault text types s s' start none none' stop =
-    let whole : rows_after s.totals.ticks types (text ++ []) ≡ rows_of text types =
-    ap (rows_after s.totals.ticks types) (append-nil text) ∙ rows_at_start s types text start in
-    subst (λ t. StoppedBy fault t (clear s) (clear s')) whole (stops_clear fault _ s s' none none' (stop []))
+  -- the same ticks, from where the run begins
+  has_ticked : (rows : Rows) (at' : Place) → HasTicked rows (stand at) (stand at') → HasTicked rows begun (now at')
+  has_ticked rows at' ticked = record {
+    program = ticked.program;
+    fields = ticked.fields;
+    totals = ticked.totals ∙ ap (λ t. added t (totals_of rows.ticks)) none;
+  }
 
--- the same of a result that hands the error on
-pub handed_on : (result : Result (Unit {0}) RunFault) (fault : RunFault) (trace : Trace) (s s' : Standing) →
-    result ≡ Err fault → StoppedBy fault trace s s' → Ends result trace s s'
-handed_on result fault trace s s' is stop = subst (λ (r : Result (Unit {0}) RunFault). Ends r trace s s') (sym is) stop
+  has_run : (rows : Rows) (text : List ℕ) (at' : Place) → HasTicked rows begun (now at') → text ≡ ticks_text rows.ticks →
+      PutsAllBut [] ([] ++ text) put put' → HasRun rows begun (now at')
+  has_run rows text at' ticked printed takes = record {
+    ticked = ticked;
+    put = all_put [] [] text put put' refl refl takes ∙ ap (append_known put) printed;
+  }
 
--- ---- Pieces of a file
+  -- ---- All lines
 
--- a run that has taken some of a file: whole lines, whose rows were run, and these bytes
-pub record Reads (types : List FixType) (bytes : List ℕ) (rest rest' : Source) (s s' : Standing) : Type 0 where
-  pub head : List ℕ
-  pub took : HasRead (head ++ bytes) rest rest'
-  pub through : RunsThrough head types s s'
+  all_trace : (lines : List (List ℕ)) (text : List ℕ) (at' : Place) (on : TicksOn lines text at at') →
+      trace_of lines ≡ record { rows = on.more; bad = None }
+  all_trace lines text at' on =
+      ap trace_of (sym (append-nil lines)) ∙ rows_are lines [] text at' on
+      ∙ ap (λ (rows : List (List ℤ)). record { rows = rows; bad = None }) (append-nil on.more)
 
-pub reads_none : (types : List FixType) (bytes : List ℕ) (rest : Source) (s : Standing) → bytes ≡ [] →
-    Reads types bytes rest rest s s
-reads_none types bytes rest s none = record {
-  head = [];
-  took = subst (λ b. HasRead b rest rest) (sym none) (read_nothing rest);
-  through = none_through types s;
-}
+  walks_whole : (lines : List (List ℕ)) (at' : Place) → WalksAll steps said lines (place at put []) (place at' put' []) →
+      RanWhole (trace_of lines) begun (now at')
+  walks_whole lines at' walks =
+      let on = all_ticked lines walks.text at at' walks.walked in
+      let rows = ticks_over begun on.more in
+      subst (λ t. RanWhole t begun (now at')) (sym (all_trace lines walks.text at' on))
+      (record {
+        rows_only = refl;
+        unstuck = on.unstuck;
+        run = has_run rows walks.text at' (has_ticked rows at' on.ticked) on.printed walks.takes;
+      })
 
-pub reads_on : (types : List FixType) (count : ℕ) (bytes bytes' : List ℕ) (rest rest' rest'' : Source)
-    (s s' : Standing) → Reads types bytes rest rest' s s' →
-    ReadsOn count bytes bytes' rest' rest'' → Reads types bytes' rest rest'' s s'
-reads_on types count bytes bytes' rest rest' rest'' s s' so_far more = record {
-  head = so_far.head;
-  took =
-      subst (λ b. HasRead b rest rest'') (append_assoc so_far.head bytes more.piece ∙ ap (λ b. so_far.head ++ b) (sym more.bytes))
-      (read_both (so_far.head ++ bytes) more.piece rest rest' rest'' so_far.took more.read);
-  through = so_far.through;
-}
+  -- ---- Some first lines
 
-pub lines_read : (types : List FixType) (done : ℕ) (bytes : List ℕ) (rest rest' : Source)
-    (s s' s'' : Standing) → Reads types bytes rest rest' s s' →
-    RunsLines done bytes types s' s'' → Reads types (drop done bytes) rest rest' s s''
-lines_read types done bytes rest rest' s s' s'' so_far lines = record {
-  head = so_far.head ++ take done bytes;
-  took =
-      subst (λ b. HasRead b rest rest') (ap (λ b. so_far.head ++ b) (sym (take-append-drop done bytes))
-      ∙ sym (append_assoc so_far.head (take done bytes) (drop done bytes))) so_far.took;
-  through = both_through so_far.head (take done bytes) types s s' s'' so_far.through lines.through;
-}
+  module _ (lines : List (List ℕ)) (front : Front steps said lines at) where
+    front_on : TicksOn front.before front.text at front.last
+    front_on = all_ticked front.before front.text at front.last front.walked
 
--- the file can't be read on
-pub read_stops : (types : List FixType) (bytes : List ℕ) (rest rest' : Source) (s s' : Standing) →
-    s.totals ≡ no_totals → s.waiting ≡ [] → s'.waiting ≡ [] →
-    BeginsLine bytes → Reads types bytes rest rest' s s' → RunsOver (Err Read) rest rest' types (clear s) (clear s')
-read_stops types bytes rest rest' s s' start none none' begins reads =
-    let rows = reads.through.rows in
-    let whole : whole_rows_of (reads.head ++ bytes) types ≡ record { rows = rows ++ []; bad = None } =
-    ap (λ (t : Totals). rows_behind t.ticks types (whole_lines (reads.head ++ bytes))) (sym start) ∙ reads.through.writes.whole bytes
-    ∙ ap (λ ls. with_rows rows (rows_behind (s.totals.ticks + length rows) types ls)) begins.no_whole in
-    let same : rows ≡ (whole_rows_of (reads.head ++ bytes) types).rows = sym (ap (λ (t : Trace). t.rows) whole ∙ append-nil rows) in
-    record {
-      parts = record { taken = reads.head ++ bytes; left = left_of rest'.rest };
-      took = reads.took;
-      left = is_left rest'.rest;
-      ends = record {
-        rows_only = ap (λ (t : Trace). t.bad) whole;
-        unstuck = subst (λ xs. (ticks_over s xs).stuck_place ≡ None) same reads.through.unstuck;
-        run = subst (λ xs. HasRun (ticks_over s xs) (clear s) (clear s')) same
-            (runs_clear (ticks_over s rows) s s' none none' reads.through.runs);
-      };
-    }
+    front_trace : trace_of lines ≡ with_rows front_on.more (rows_behind front.last.0.totals.ticks types front.behind)
+    front_trace = ap trace_of front.parts ∙ rows_are front.before front.behind front.text front.last front_on
 
--- a run over the file is one over what was taken and what is left
-stop_over : (fault : RunFault) (parts : Parts) (types : List FixType) (s s' : Standing) →
-    StoppedBy fault (file_rows parts types) s s' → fault ≢ Memory → StoppedReading fault parts types s s'
-stop_over Read parts types s s' stop other = absurd stop
-stop_over Out parts types s s' stop other = stop
-stop_over (BadTrace bad) parts types s s' stop other = stop
-stop_over (StuckFault at) parts types s s' stop other = stop
-stop_over Memory parts types s s' stop other = absurd (other refl)
+    -- the types stay
+    front_types : front.last.0.types.now ≡ types
+    front_types = front_on.types ∙ same
 
-never_memory : (fault : RunFault) (trace : Trace) (s s' : Standing) → RunsTo fault trace s s' → fault ≢ Memory
-never_memory Read trace s s' stop = absurd stop
-never_memory Out trace s s' stop = λ e. cc
-never_memory (BadTrace bad) trace s s' stop = λ e. cc
-never_memory (StuckFault at) trace s s' stop = λ e. cc
-never_memory Memory trace s s' stop = absurd stop
+    -- nothing was executed after them
+    front_stays : (at' : Place) → at'.1 ≡ front.last.1 → at'.0.totals ≡ front.last.0.totals →
+        HasTicked (ticks_over begun front_on.more) begun (now at')
+    front_stays at' machine totals =
+        let ticked = has_ticked (ticks_over begun front_on.more) front.last front_on.ticked in
+        record {
+          program = ap (λ (m : MachineState). m.program) machine ∙ ticked.program;
+          fields = ap fields_of machine ∙ ticked.fields;
+          totals = totals ∙ ticked.totals;
+        }
 
--- a line of a piece ends the run
-pub lines_stop : (result : Result (Unit {0}) RunFault) (fault : RunFault) (types : List FixType) (bytes : List ℕ)
-    (rest rest' : Source) (s s' s'' : Standing) → result ≡ Err fault →
-    s.totals ≡ no_totals → s.waiting ≡ [] → (fault ≢ Out → s''.waiting ≡ []) → Reads types bytes rest rest' s s' →
-    ((behind : List ℕ) → RunsTo fault (rows_after s'.totals.ticks types (bytes ++ behind)) s' s'') →
-    RunsOver result rest rest' types (clear s) (clear s'')
-lines_stop result fault types bytes rest rest' s s' s'' is start none none' reads stop =
-    let left = left_of rest'.rest in
-    let parts : Parts = record { taken = reads.head ++ bytes; left = left } in
-    let here = stops_in fault reads.head (bytes ++ left) types s s' s'' reads.through (stop left) in
-    let whole : rows_after s.totals.ticks types (reads.head ++ (bytes ++ left)) ≡ file_rows parts types =
-    ap (rows_after s.totals.ticks types) (sym (append_assoc reads.head bytes left))
-    ∙ rows_at_start s types ((reads.head ++ bytes) ++ left) start in
-    subst (λ (r : Result (Unit {0}) RunFault). RunsOver r rest rest' types (clear s) (clear s'')) (sym is)
-    (record {
-      parts = parts;
-      took = reads.took;
-      left = is_left rest'.rest;
-      ends =
-          stop_over fault parts types (clear s) (clear s'')
-          (subst (λ t. StoppedBy fault t (clear s) (clear s'')) whole (stops_clear fault _ s s'' none none' here))
-          (never_memory fault _ s s'' here);
-    })
+    -- the row after them is stuck
+    module _ (halt : Stuck) (line : List ℕ) (behind : List (List ℕ)) (is : front.behind ≡ line ∷ behind) (at' : Place)
+        (sticks : Sticks halt line front.last.0 at'.0 front.last.1 at'.1) where
+      stuck_rows : (trace_of lines).rows
+          ≡ front_on.more ++ sticks.row ∷ (rows_behind (front.last.0.totals.ticks + 1) types behind).rows
+      stuck_rows =
+          ap (λ (t : Trace). t.rows)
+          (front_trace ∙ ap (λ ls. with_rows front_on.more (rows_behind front.last.0.totals.ticks types ls)) is
+          ∙ ap (λ ts. with_rows front_on.more (rows_behind front.last.0.totals.ticks ts (line ∷ behind))) (sym front_types)
+          ∙ ap (with_rows front_on.more) (sticks.is_row.reads behind)
+          ∙ ap (λ ts. with_rows front_on.more (with_rows (sticks.row ∷ []) (rows_behind (front.last.0.totals.ticks + 1) ts behind)))
+          front_types)
 
--- the last line ends the run
-pub file_ends : (result : Result (Unit {0}) RunFault) (types : List FixType) (bytes : List ℕ)
-    (rest rest' : Source) (s s' s'' : Standing) →
-    s.totals ≡ no_totals → s.waiting ≡ [] → (result ≢ Err Out → s''.waiting ≡ []) → IsAtEnd rest'.rest → Reads types bytes rest rest' s s' →
-    EndsLast result (rows_after s'.totals.ticks types bytes) s' s'' → RunsOver result rest rest' types (clear s) (clear s'')
-file_ends result types bytes rest rest' s s' s'' start none none' end reads last = record {
-  parts = parts;
-  took = reads.took;
-  left = is_left rest'.rest;
-  ends = over result (subst (λ t. Ends result t (clear s) (clear s'')) whole (end_clear result _ s s'' none none' both)) both;
-}
-  where
-    parts : Parts
-    parts = record { taken = reads.head ++ bytes; left = left_of rest'.rest }
+      stuck_ticks : (more : List (List ℤ)) → ticks_over begun (front_on.more ++ sticks.row ∷ more)
+          ≡ record { ticks = (ticks_over begun front_on.more).ticks; cells = fields_of at'.1; stuck_place = Some halt }
+      stuck_ticks more =
+          ticks_behind (stand at) (stand front.last) front_on.more (sticks.row ∷ more) front_on.unstuck front_on.ticked
+          ∙ ap (λ (r : Rows). record {
+            ticks = (ticks_over begun front_on.more).ticks ++ r.ticks;
+            cells = r.cells;
+            stuck_place = r.stuck_place;
+          }) (first_stuck sticks.row more halt (stand front.last) (stand at') sticks.stuck.stuck)
+          ∙ ap (λ (ticks : List TickRow). record { ticks = ticks; cells = fields_of at'.1; stuck_place = Some halt })
+          (append-nil (ticks_over begun front_on.more).ticks)
 
-    both : EndsLast result (rows_after s.totals.ticks types (reads.head ++ bytes)) s s''
-    both = both_end result reads.head bytes types s s' s'' reads.through last
+      stuck_ticked : (more : List (List ℤ)) → HasTicked (ticks_over begun (front_on.more ++ sticks.row ∷ more)) begun (now at')
+      stuck_ticked more =
+          let before = has_ticked (ticks_over begun front_on.more) front.last front_on.ticked in
+          record {
+            program = sticks.stuck.program ∙ before.program;
+            fields = sym (ap (λ (r : Rows). r.cells) (stuck_ticks more));
+            totals = sticks.stuck.totals ∙ before.totals ∙ ap (λ (r : Rows). added no_totals (totals_of r.ticks)) (sym (stuck_ticks more));
+          }
 
-    whole : rows_after s.totals.ticks types (reads.head ++ bytes) ≡ rows_of ((reads.head ++ bytes) ++ left_of rest'.rest) types
-    whole =
-        rows_at_start s types (reads.head ++ bytes) start
-        ∙ ap (λ t. rows_of t types) (sym (ap (λ l. (reads.head ++ bytes) ++ l) (none_left rest'.rest end) ∙ append-nil (reads.head ++ bytes)))
+      stuck_text : (more : List (List ℤ)) → front.text ≡ ticks_text (ticks_over begun (front_on.more ++ sticks.row ∷ more)).ticks
+      stuck_text more = front_on.printed ∙ ap (λ (r : Rows). ticks_text r.ticks) (sym (stuck_ticks more))
 
-    over : (r : Result (Unit {0}) RunFault) → Ends r (rows_of ((reads.head ++ bytes) ++ left_of rest'.rest) types) (clear s) (clear s'') →
-        EndsLast r (rows_after s.totals.ticks types (reads.head ++ bytes)) s s'' →
-        MatchResult r (λ _. RanWhole (file_rows (record { taken = reads.head ++ bytes; left = left_of rest'.rest }) types) (clear s) (clear s''))
-        (λ fault. StoppedReading fault (record { taken = reads.head ++ bytes; left = left_of rest'.rest }) types (clear s) (clear s''))
-    over (Ok value) ends last = ends
-    over (Err fault) ends last =
-        stop_over fault (record { taken = reads.head ++ bytes; left = left_of rest'.rest }) types (clear s) (clear s'') ends
-        (never_memory fault _ s s'' last)
+  -- ---- What ends a run
+
+  stops_bad : (bad : BadLine) (lines : List (List ℕ)) (at' : Place) →
+      StopsAt steps said stops (stop.Trace bad) lines (place at put []) (place at' put' []) →
+      StoppedAtLine bad (trace_of lines) begun (now at')
+  stops_bad bad lines at' stopped =
+      let front = stopped.front in
+      let first = stopped.first in
+      let on = front_on lines front in
+      let rows = ticks_over begun on.more in
+      let is : trace_of lines ≡ record { rows = on.more; bad = Some bad } =
+      front_trace lines front
+      ∙ ap (λ ls. with_rows on.more (rows_behind front.last.0.totals.ticks types ls)) first.parts
+      ∙ ap (λ ts. with_rows on.more (rows_behind front.last.0.totals.ticks ts (first.line ∷ first.behind))) (sym (front_types lines front))
+      ∙ ap (with_rows on.more) (first.ends.no_row first.behind)
+      ∙ ap (λ (rs : List (List ℤ)). record { rows = rs; bad = Some bad }) (append-nil on.more) in
+      subst (λ t. StoppedAtLine bad t begun (now at')) (sym is)
+      (record {
+        first_bad = refl;
+        unstuck = on.unstuck;
+        run = has_run rows front.text at' (front_stays lines front at' first.ends.machine first.ends.totals) on.printed stopped.takes;
+      })
+
+  stops_stuck : (halt : Stuck) (lines : List (List ℕ)) (at' : Place) →
+      StopsAt steps said stops (stop.Stuck halt) lines (place at put []) (place at' put' []) →
+      StoppedStuck halt (trace_of lines) begun (now at')
+  stops_stuck halt lines at' stopped =
+      let front = stopped.front in
+      let first = stopped.first in
+      let more = (rows_behind (front.last.0.totals.ticks + 1) types first.behind).rows in
+      let is = stuck_rows lines front halt first.line first.behind first.parts at' first.ends in
+      let rows = ticks_over begun (trace_of lines).rows in
+      record {
+        stuck = ap (λ rs. (ticks_over begun rs).stuck_place) is
+            ∙ ap (λ (r : Rows). r.stuck_place) (stuck_ticks lines front halt first.line first.behind first.parts at' first.ends more);
+        run = has_run rows front.text at'
+            (subst (λ rs. HasTicked (ticks_over begun rs) begun (now at')) (sym is)
+            (stuck_ticked lines front halt first.line first.behind first.parts at' first.ends more))
+            (stuck_text lines front halt first.line first.behind first.parts at' first.ends more
+            ∙ ap (λ rs. ticks_text (ticks_over begun rs).ticks) (sym is)) stopped.takes;
+      }
+
+  -- a front was printed of the lines of some first rows, and nothing was executed after them
+  cut_there : (lines : List (List ℕ)) (front : Front steps said lines at) (at' : Place) → at'.1 ≡ front.last.1 →
+      at'.0.totals ≡ front.last.0.totals → PutsFront put put' ([] ++ front.text) → StoppedByOut (trace_of lines) begun (now at')
+  cut_there lines front at' machine totals cuts =
+      let on = front_on lines front in
+      record {
+        front = record {
+          rows = on.more;
+          behind = (rows_behind front.last.0.totals.ticks types front.behind).rows;
+          parts = ap (λ (t : Trace). t.rows) (front_trace lines front);
+        };
+        ticked = front_stays lines front at' machine totals;
+        put = subst (λ t. PutsFront put put' t) on.printed cuts;
+      }
+
+  cut_first : (why : RunStop) (lines : List (List ℕ)) (front : Front steps said lines at) (at' : Place) →
+      StopsFirst stops why front.behind front.last at' → PutsFront put put' ([] ++ front.text) →
+      StoppedByOut (trace_of lines) begun (now at')
+  cut_first (stop.Trace bad) lines front at' first cuts = cut_there lines front at' first.ends.machine first.ends.totals cuts
+  cut_first (stop.Stuck halt) lines front at' first cuts =
+      let on = front_on lines front in
+      let more = (rows_behind (front.last.0.totals.ticks + 1) types first.behind).rows in
+      record {
+        front = record {
+          rows = on.more ++ first.ends.row ∷ [];
+          behind = more;
+          parts = stuck_rows lines front halt first.line first.behind first.parts at' first.ends
+              ∙ sym (append_assoc on.more (first.ends.row ∷ []) more);
+        };
+        ticked = stuck_ticked lines front halt first.line first.behind first.parts at' first.ends [];
+        put = subst (λ t. PutsFront put put' t) (stuck_text lines front halt first.line first.behind first.parts at' first.ends []) cuts;
+      }
+
+  stops_cut : (lines : List (List ℕ)) (at' : Place) → CutAfter steps said stops lines (place at put []) (place at' put' []) →
+      StoppedByOut (trace_of lines) begun (now at')
+  stops_cut lines at' cut = by_last cut.last
+    where
+      by_last : (at' ≡ cut.front.last) ⊎ ((why : RunStop) × StopsFirst stops why cut.front.behind cut.front.last at') →
+          StoppedByOut (trace_of lines) begun (now at')
+      by_last (inl is) =
+          cut_there lines cut.front at' (ap (λ (a : Place). a.1) is) (ap (λ (a : Place). a.0.totals) is) cut.cuts
+      by_last (inr stopped) = cut_first stopped.0 lines cut.front at' stopped.1 cut.cuts
+
+  -- ---- Bytes
+
+  pub walks_bytes : (lines : List (List ℕ)) (at' : Place) (waiting waiting' : List ℕ) → waiting ≡ [] → waiting' ≡ [] →
+      WalksAll steps said lines (place at put waiting) (place at' put' waiting') → RanWhole (trace_of lines) begun (now at')
+  walks_bytes lines at' waiting waiting' free free' walks =
+      walks_whole lines at'
+      (subst (λ w. WalksAll steps said lines (place at put w) (place at' put' [])) free
+      (subst (λ w. WalksAll steps said lines (place at put waiting) (place at' put' w)) free' walks))
+
+  stops_from : (fault : StreamFault RunStop) (lines : List (List ℕ)) (at' : Place) (waiting' : List ℕ) →
+      (fault ≢ stream.Put → waiting' ≡ []) → StopsOver steps said stops fault lines (place at put []) (place at' put' waiting') →
+      StoppedBy (run_fault fault) (trace_of lines) begun (now at')
+  stops_from stream.Read lines at' waiting' free' stopped = absurd stopped
+  stops_from stream.Put lines at' waiting' free' stopped =
+      stops_cut lines at' (record { front = stopped.front; last = stopped.last; cuts = stopped.cuts })
+  stops_from (stream.Line (stop.Trace bad)) lines at' waiting' free' stopped =
+      stops_bad bad lines at'
+      (subst (λ w. StopsAt steps said stops (stop.Trace bad) lines (place at put []) (place at' put' w)) (free' (λ e. cc)) stopped)
+  stops_from (stream.Line (stop.Stuck halt)) lines at' waiting' free' stopped =
+      stops_stuck halt lines at'
+      (subst (λ w. StopsAt steps said stops (stop.Stuck halt) lines (place at put []) (place at' put' w)) (free' (λ e. cc)) stopped)
+
+  pub stops_bytes : (fault : StreamFault RunStop) (lines : List (List ℕ)) (at' : Place) (waiting waiting' : List ℕ) → waiting ≡ [] →
+      (fault ≢ stream.Put → waiting' ≡ []) →
+      StopsOver steps said stops fault lines (place at put waiting) (place at' put' waiting') →
+      StoppedBy (run_fault fault) (trace_of lines) begun (now at')
+  stops_bytes fault lines at' waiting waiting' free free' stopped =
+      stops_from fault lines at' waiting' free'
+      (subst (λ w. StopsOver steps said stops fault lines (place at put w) (place at' put' waiting')) free stopped)
+
+  -- ---- A file
+
+  pub walks_over : (from to : Source) (at' : Place) →
+      WalksFile steps said stops (Ok tt) from to (place at put []) (place at' put' []) → RunsOver (Ok tt) from to types begun (now at')
+  walks_over from to at' walks = record {
+    parts = record { taken = walks.parts.taken; left = walks.parts.left };
+    took = walks.took;
+    left = walks.left;
+    ends = walks_whole _ at' walks.ends;
+  }
+
+  pub stops_over : (fault : StreamFault RunStop) (from to : Source) (at' : Place) →
+      WalksFile steps said stops (Err fault) from to (place at put []) (place at' put' []) →
+      RunsOver (Err (run_fault fault)) from to types begun (now at')
+  stops_over stream.Read from to at' walks = record {
+    parts = record { taken = walks.parts.taken; left = walks.parts.left };
+    took = walks.took;
+    left = walks.left;
+    ends = walks_whole _ at' walks.ends;
+  }
+  stops_over stream.Put from to at' walks = record {
+    parts = record { taken = walks.parts.taken; left = walks.parts.left };
+    took = walks.took;
+    left = walks.left;
+    ends = stops_cut _ at' walks.ends;
+  }
+  stops_over (stream.Line (stop.Trace bad)) from to at' walks = record {
+    parts = record { taken = walks.parts.taken; left = walks.parts.left };
+    took = walks.took;
+    left = walks.left;
+    ends = stops_bad bad _ at' walks.ends;
+  }
+  stops_over (stream.Line (stop.Stuck halt)) from to at' walks = record {
+    parts = record { taken = walks.parts.taken; left = walks.parts.left };
+    took = walks.took;
+    left = walks.left;
+    ends = stops_stuck halt _ at' walks.ends;
+  }
 
 -- nothing was read
-pub nothing_read : (rest : Source) (types : List FixType) (s : Standing) → RunsOver (Err Memory) rest rest types s s
-nothing_read rest types s = record {
-  parts = record { taken = []; left = left_of rest.rest };
-  took = read_nothing rest;
-  left = is_left rest.rest;
+pub nothing_read : (from : Source) (types : List FixType) (s : Standing) → RunsOver (Err Memory) from from types s s
+nothing_read from types s = record {
+  parts = record { taken = []; left = left_of from.rest };
+  took = read_nothing from;
+  left = is_left from.rest;
   ends = (refl, refl);
 }
-
-pub never_read : (result : Result (Unit {0}) RunFault) (fault : RunFault) (trace : Trace) (s s' : Standing) →
-    result ≡ Err fault → RunsTo fault trace s s' → result ≢ Err Read
-never_read result Read trace s s' is stop = absurd stop
-never_read result Out trace s s' is stop = λ e. cc
-never_read result (BadTrace bad) trace s s' is stop = λ e. cc
-never_read result (StuckFault at) trace s s' is stop = λ e. cc
-never_read result Memory trace s s' is stop = absurd stop

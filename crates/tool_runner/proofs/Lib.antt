@@ -1,6 +1,7 @@
 pub mod lemmas
 pub mod OutputLines
 pub mod TickBounds
+pub mod LineRows
 pub mod Standings
-pub mod Walks
+pub mod Steps
 pub mod Files

@@ -1,10 +1,9 @@
 -- Runs, one after another.
-use Rattle.std.proofs.Common.{◌≡◌, refl, sym, ◌∙◌, ap, subst, List, [], ◌∷◌, ◌++◌, arith}
+use Rattle.std.proofs.Common.{◌≡◌, refl, sym, ◌∙◌, ap, List, [], ◌∷◌, ◌++◌, arith}
 use Rattle.std.specs.Prelude.{ℤ, None, Some}
 use Rattle.std.proofs.lemmas.Grind.{flat_map-append}
 use Rattle.std.proofs.lemmas.List.{append-nil, length-append}
 use Rattle.std.proofs.lemmas.List.Sums.{sum_by-append}
-use Rattle.base_host.specs.Files.{PutsFront}
 use Rattle.c_syntax.specs.declared.fault.Cost.{Cost}
 use Rattle.c_syntax.specs.declared.fault.Stuck.{Stuck}
 use Rattle.c_syntax.specs.Plain.{program_tree}
@@ -14,12 +13,11 @@ use Rattle.c_semantics.specs.Machine.{After, Outcome, done, stuck}
 use Rattle.c_semantics.specs.Rows.{TickRow, Rows, rows_from, rows_after, with_tick, tick_row, step_run, interface_calls}
 use Rattle.c_checked.specs.Checked.{CheckedProgram}
 use Rattle.c_interpreter.specs.States.{tree_of, fields_of}
+use Rattle.c_interpreter.specs.Machines.{IsStuckTick}
 use Rattle.tool_runner.specs.declared.outcome.Totals.{Totals}
 use Rattle.tool_runner.specs.Texts.{outputs_line, ticks_text}
-use Rattle.tool_runner.specs.Ticks.{Standing, counted, Takes, Ticked, StuckOn}
+use Rattle.tool_runner.specs.Ticks.{Standing, counted, Ticked}
 use Rattle.tool_runner.specs.Runs.{totals_of, added, ticks_over, HasTicked}
-use Rattle.tool_runner.specs.Walks.{Runs}
-use Rattle.tool_stream.proofs.lemmas.Waiting.{nothing, both_texts, front_of_more}
 
 -- ---- Rows
 
@@ -95,9 +93,6 @@ text-one tick = append-nil (outputs_line tick.outputs)
 pub none_ticked : (s : Standing) → HasTicked (ticks_over s []) s s
 none_ticked s = record { program = refl; fields = refl; totals = added-none s.totals }
 
-pub none_run : (s : Standing) → Runs (ticks_over s []) s s
-none_run s = record { ticked = none_ticked s; lines = nothing s.waiting s.put }
-
 -- some rows have ticked, and then others
 pub both_ticked : (s s' s'' : Standing) (rows more : List (List ℤ)) → (ticks_over s rows).stuck_place ≡ None →
     HasTicked (ticks_over s rows) s s' →
@@ -114,29 +109,11 @@ both_ticked s s' s'' rows more unstuck first second =
     }
 
 -- the text of some rows, and then that of others
-whole_text : (s s' : Standing) (rows more : List (List ℤ)) → (ticks_over s rows).stuck_place ≡ None → HasTicked (ticks_over s rows) s s' →
+pub whole_text : (s s' : Standing) (rows more : List (List ℤ)) → (ticks_over s rows).stuck_place ≡ None → HasTicked (ticks_over s rows) s s' →
     ticks_text (ticks_over s rows).ticks ++ ticks_text (ticks_over s' more).ticks ≡ ticks_text (ticks_over s (rows ++ more)).ticks
 whole_text s s' rows more unstuck first =
     sym (text-append (ticks_over s rows).ticks (ticks_over s' more).ticks)
     ∙ ap (λ (r : Rows). ticks_text r.ticks) (sym (ticks_behind s s' rows more unstuck first))
-
-pub both_run : (s s' s'' : Standing) (rows more : List (List ℤ)) → (ticks_over s rows).stuck_place ≡ None → Runs (ticks_over s rows) s s' →
-    Runs (ticks_over s' more) s' s'' → Runs (ticks_over s (rows ++ more)) s s''
-both_run s s' s'' rows more unstuck first second = record {
-  ticked = both_ticked s s' s'' rows more unstuck first.ticked second.ticked;
-  lines =
-      subst (λ t. Takes t s s'') (whole_text s s' rows more unstuck first.ticked)
-      (both_texts s.waiting s'.waiting s''.waiting (ticks_text (ticks_over s rows).ticks)
-      (ticks_text (ticks_over s' more).ticks) s.put s'.put s''.put first.lines second.lines);
-}
-
-pub both_cut : (s s' s'' : Standing) (rows more : List (List ℤ)) → (ticks_over s rows).stuck_place ≡ None → Runs (ticks_over s rows) s s' →
-    PutsFront s'.put s''.put (s'.waiting ++ ticks_text (ticks_over s' more).ticks) →
-    PutsFront s.put s''.put (s.waiting ++ ticks_text (ticks_over s (rows ++ more)).ticks)
-both_cut s s' s'' rows more unstuck first second =
-    subst (λ t. PutsFront s.put s''.put (s.waiting ++ t)) (whole_text s s' rows more unstuck first.ticked)
-    (front_of_more s.waiting s'.waiting (ticks_text (ticks_over s rows).ticks)
-    (ticks_text (ticks_over s' more).ticks) s.put s'.put s''.put first.lines second)
 
 -- ---- One row
 
@@ -146,7 +123,8 @@ pub record OneRow (row outputs : List ℤ) (s s' : Standing) : Type 0 where
   pub ticked : HasTicked (ticks_over s (row ∷ [])) s s'
   pub text : outputs_line outputs ≡ ticks_text (ticks_over s (row ∷ [])).ticks
 
-pub one_ticked : (row outputs : List ℤ) (s s' : Standing) → Ticked row outputs s s' → OneRow row outputs s s'
+pub one_ticked : (row outputs : List ℤ) (s s' : Standing) → Ticked row outputs s.machine s'.machine s.totals s'.totals →
+    OneRow row outputs s s'
 one_ticked row outputs s s' next =
     let p = tree_of s.machine in
     let whole = one_row p row (fields_of s.machine) next.tick.left next.tick.run in
@@ -167,6 +145,6 @@ one_ticked row outputs s s' next =
     }
 
 -- rows of which the first is stuck
-pub first_stuck : (row : List ℤ) (more : List (List ℤ)) (at : Stuck) (s s' : Standing) → StuckOn at row s s' →
+pub first_stuck : (row : List ℤ) (more : List (List ℤ)) (at : Stuck) (s s' : Standing) → IsStuckTick s.machine s'.machine row at →
     ticks_over s (row ∷ more) ≡ record { ticks = []; cells = fields_of s'.machine; stuck_place = Some at }
-first_stuck row more at s s' here = one_stuck (tree_of s.machine) row more (fields_of s.machine) (fields_of s'.machine) at here.stuck
+first_stuck row more at s s' here = one_stuck (tree_of s.machine) row more (fields_of s.machine) (fields_of s'.machine) at here

@@ -1,5 +1,7 @@
 pub mod Texts
 pub mod Ticks
 pub mod Runs
-pub mod Walks
+pub mod Rows
+pub mod Lines
+pub mod Faults
 pub mod Examples

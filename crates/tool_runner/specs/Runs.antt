@@ -1,5 +1,5 @@
 -- What a run over the rows of a trace comes to.
-use Rattle.std.specs.Prelude.{◌≡◌, ℕ, ◌+◌, ℤ, List, [], ◌++◌, length, Option, None, Some, IfSome, Result, MatchResult}
+use Rattle.std.specs.Prelude.{◌≡◌, ℕ, ◌+◌, ℤ, List, [], ◌++◌, length, None, Some, IfSome, Result, MatchResult}
 use Rattle.std.specs.List.{sum_by}
 use Rattle.std.specs.Io.KnownBytes.{append_known}
 use Rattle.base_host.specs.Files.{PutsFront}

@@ -12,6 +12,15 @@ pub struct Totals {
     pub calls: u64,
 }
 
+/// Why a line of a trace ends a run.
+#[derive(Clone, Copy, Debug, PartialEq, Eq, Drop)]
+pub enum RunStop {
+    /// It is no row.
+    Trace(BadLine),
+    /// The place where the machine is stuck in its tick.
+    Stuck(Stuck),
+}
+
 /// Why a run stopped before the end of its trace.
 #[derive(Clone, Copy, Debug, PartialEq, Eq, Drop)]
 pub enum RunFault {
@@ -25,4 +34,13 @@ pub enum RunFault {
     Stuck(Stuck),
     /// Memory ran out.
     Memory,
+}
+
+/// What a run came to.
+#[derive(Clone, Copy, Debug, PartialEq, Eq, Drop)]
+pub struct Ran {
+    /// What was executed.
+    pub totals: Totals,
+    /// Whether all of the trace was run, or why not.
+    pub ended: Result<(), RunFault>,
 }

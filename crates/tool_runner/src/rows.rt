@@ -1,44 +1,56 @@
-// The next row of a trace, into the room of a run.
-ghost use Rattle.std.specs.Prelude.{◌≡◌, ◌≤◌, [], length, drop, Some, MatchResult, MatchOption};
-ghost use Rattle.tool_traces.specs.Lines.{whole_lines};
-ghost use Rattle.tool_traces.specs.Pieces.{rows_after, BeginsBadly, IsNextRow, BeginsLine, EndsTrace};
-ghost use Rattle.tool_runner.specs.Walks.{IsFilled};
+// The rows of a trace, one after another.
+ghost use Rattle.std.specs.Prelude.{◌≡◌, ◌<◌, ℕ, List, length, MatchResult};
+ghost use Rattle.base_fixed_point.specs.declared.types.FixType.{FixType};
+ghost use Rattle.tool_runner.specs.Rows.{IsRow, IsNoRow};
 
-use crate::run::Run;
 use base_fixed_point::FixType;
-use tool_traces::{BadLine, last_row, next_row};
+use tool_traces::{BadLine, BadWhy, read_row};
 
-// Reads the row of the line that begins at the place `from`, and says where the trace goes on. None where its end isn't there.
-pub(crate) fn fill_row(
-    run: &mut Run,
+// How many lines a trace may have.
+const MOST_LINES: u32 = u32::MAX;
+
+// Reads the row of a line after so many `lines`, into `into`.
+//
+// Fails where the line is no row, whatever may follow. `into` may hold anything then.
+pub(crate) fn next_row(
+    line: &[u8],
+    lines: u32,
     types: &[FixType],
-    text: &[u8],
-    from: usize,
-) -> Result<Option<usize>, BadLine>
-    requires within { from ≤ length text.now }
-    requires room { length run.old.row.items ≡ length types.now }
-    requires few { run.old.totals.ticks ≤ 4294967295 }
-    ensures next { MatchResult result
-        (λ next. MatchOption next (BeginsLine (drop from text.now))
-        (λ after. IsNextRow text.now types.now run.old.totals.ticks from after run.new.row.items))
-        (λ bad. BeginsBadly bad (drop from text.now) types.now run.old.totals.ticks) }
-    ensures filled { IsFilled run.old run.new }
+    into: &mut [i64],
+) -> Result<(), BadLine>
+    requires room { length into.old ≡ length types.now }
+    ensures next { MatchResult result (λ _. IsRow into.new line.now types.now lines)
+        (λ bad. IsNoRow bad line.now types.now lines) }
+    ensures room { length into.new ≡ length into.old }
 {
-    let lines = run.totals.ticks as u32;
-    next_row(text, from, lines, types, &mut run.row)
+    if lines == MOST_LINES {
+        return Err(BadLine {
+            line: lines,
+            why: BadWhy::Many,
+        });
+    }
+    match read_row(line, types, into) {
+        Ok(()) => Ok(()),
+        Err(why) => Err(BadLine {
+            line: lines + 1,
+            why,
+        }),
+    }
 }
 
-// Reads the row of a last line, which has no end. False where it is empty, and so no line.
-pub(crate) fn fill_last(run: &mut Run, types: &[FixType], text: &[u8]) -> Result<bool, BadLine>
-    requires unended { whole_lines text.now ≡ [] }
-    requires room { length run.old.row.items ≡ length types.now }
-    requires few { run.old.totals.ticks ≤ 4294967295 }
-    ensures last { MatchResult result
-        (λ there. EndsTrace there text.now types.now run.old.totals.ticks run.new.row.items)
-        (λ bad. rows_after run.old.totals.ticks types.now text.now
-        ≡ record { rows = []; bad = Some bad }) }
-    ensures filled { IsFilled run.old run.new }
+// Why a line of more than 4,096 bytes, after so many `lines`, is no row.
+pub(crate) fn long_row(lines: u32) -> BadLine
+    ensures { (line : List ℕ) (types : List FixType) → 4096 < length line →
+        IsNoRow result line types lines }
 {
-    let lines = run.totals.ticks as u32;
-    last_row(text, lines, types, &mut run.row)
+    if lines == MOST_LINES {
+        return BadLine {
+            line: lines,
+            why: BadWhy::Many,
+        };
+    }
+    BadLine {
+        line: lines + 1,
+        why: BadWhy::Long,
+    }
 }

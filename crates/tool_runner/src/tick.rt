@@ -1,18 +1,26 @@
 // One tick of a run.
-ghost use Rattle.std.specs.Prelude.{◌≡◌, ◌≢◌, ◌+◌, ◌<◌, ◌^◌, ◌≤◌, length, Err, IsErrOf, MatchResult};
-ghost use Rattle.base_host.specs.Faults.{Rose};
+ghost use Rattle.std.specs.Prelude.{◌≡◌, ◌+◌, ◌<◌, ◌^◌, length, OnOk, MatchResult};
 ghost use Rattle.c_interpreter.specs.Machines.{IsRow};
-ghost use Rattle.tool_runner.specs.Ticks.{StaysWithin, counted, TicksOn, StopsOn};
-ghost use Rattle.tool_runner.specs.Walks.{inside};
+ghost use Rattle.tool_runner.specs.Runs.{no_totals};
+ghost use Rattle.tool_runner.specs.Ticks.{StaysWithin, counted, Ticked, StuckOn};
 
-use crate::line::put_line;
-use crate::outcome::{RunFault, Totals};
+use crate::outcome::Totals;
 use crate::run::Run;
-use base_host::Sink;
 use c_interpreter::Machine;
-use c_syntax::Cost;
+use c_syntax::{Cost, Stuck};
 
 impl Totals {
+    // The totals before the first tick.
+    pub(crate) fn none() -> Totals
+        ensures { result ≡ no_totals }
+    {
+        Totals {
+            ticks: 0,
+            steps: 0,
+            calls: 0,
+        }
+    }
+
     // Counts a tick that took this.
     fn count(&mut self, cost: Cost)
         requires ticks { self.old.ticks + 1 < 2 ^ 64 }
@@ -26,36 +34,26 @@ impl Totals {
     }
 }
 
-// The tick of the row: the machine goes on, the totals count it, and its line is printed or waits.
-pub(crate) fn tick<S: Sink>(
-    run: &mut Run,
-    machine: &mut Machine,
-    sink: &mut S,
-) -> Result<(), RunFault>
-    requires row { IsRow machine.old run.old.row.items }
-    requires outputs { length run.old.outputs.items ≡ machine.old.program.outputs }
-    requires within { StaysWithin run.old.totals }
-    requires more { run.old.totals.ticks < 4294967295 }
-    ensures ticked { MatchResult result
-        (λ _. TicksOn run.old.row.items (inside machine.old run.old (S.bytes sink.old))
-        (inside machine.new run.new (S.bytes sink.new)))
-        (λ fault. StopsOn fault run.old.row.items (inside machine.old run.old (S.bytes sink.old))
-        (inside machine.new run.new (S.bytes sink.new))) }
-    ensures within { StaysWithin run.new.totals }
-    ensures row { length run.new.row.items ≡ length run.old.row.items }
-    ensures outputs { length run.new.outputs.items ≡ length run.old.outputs.items }
-    ensures program { machine.new.program ≡ machine.old.program }
-    ensures cause { IsErrOf result RunFault.Out → Rose (S.faults sink.old) (S.faults sink.new) }
-    ensures calm { result ≢ Err RunFault.Out → S.faults sink.new ≡ S.faults sink.old }
-    ensures later { S.faults sink.old ≤ S.faults sink.new }
-{
-    let cost = match machine.tick(&run.row, &mut run.outputs) {
-        Ok(cost) => cost,
-        Err(at) => return Err(RunFault::Stuck(at)),
-    };
-    run.totals.count(cost);
-    if put_line(&mut run.lines, sink, &run.outputs).is_err() {
-        return Err(RunFault::Out);
+impl<'a> Run<'a> {
+    // The tick of the row: the machine goes on, and the totals count it.
+    pub(crate) fn tick(&mut self, machine: &mut Machine) -> Result<(), Stuck>
+        requires row { IsRow machine.old self.old.row.items }
+        requires outputs { length self.old.outputs.items ≡ machine.old.program.outputs }
+        requires within { StaysWithin self.old.totals }
+        requires more { self.old.totals.ticks < 4294967295 }
+        ensures ticked { MatchResult result
+            (λ _. Ticked self.old.row.items self.new.outputs.items machine.old machine.new self.old.totals
+            self.new.totals)
+            (λ at. StuckOn at self.old.row.items machine.old machine.new self.old.totals
+            self.new.totals) }
+        ensures within { OnOk result (StaysWithin self.new.totals) }
+        ensures types { self.new.types.now ≡ self.old.types.now }
+        ensures row { length self.new.row.items ≡ length self.old.row.items }
+        ensures outputs { length self.new.outputs.items ≡ length self.old.outputs.items }
+        ensures program { machine.new.program ≡ machine.old.program }
+    {
+        let cost = machine.tick(&self.row, &mut self.outputs)?;
+        self.totals.count(cost);
+        Ok(())
     }
-    Ok(())
 }

@@ -10,7 +10,7 @@ use base_host::Sink;
 use c_interpreter::Machine;
 use std::alloc::Global;
 use tool_endings::Ending;
-use tool_runner::{RunFault, Totals, run_bytes};
+use tool_runner::{RunFault, run_bytes};
 
 /// Runs the rows of a trace's bytes through a machine after its start, one tick for each, and prints a line for each tick. The
 /// numbers of a row are stored integers of these types, each within the type of its input.
@@ -32,13 +32,9 @@ pub fn run_rows<S: Sink>(
     ensures counts { let sink = sink_told S.bytes S.faults in
         CountsPuts result (sink out.old) (sink out.new) }
 {
-    let mut totals = Totals {
-        ticks: 0,
-        steps: 0,
-        calls: 0,
-    };
-    match run_bytes(alloc, machine, types, trace, out, &mut totals) {
-        Ok(()) => Ending::Ran(totals),
+    let ran = run_bytes(alloc, machine, types, trace, out);
+    match ran.ended {
+        Ok(()) => Ending::Ran(ran.totals),
         // Bytes are there, so that no read can fail.
         Err(RunFault::Read) => Ending::ReadFault,
         Err(RunFault::Out) => Ending::PutFault,

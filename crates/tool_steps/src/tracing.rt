@@ -12,7 +12,7 @@ use base_host::{Host, Sink};
 use c_interpreter::Machine;
 use std::alloc::Global;
 use tool_endings::Ending;
-use tool_runner::{RunFault, Totals, run_trace};
+use tool_runner::{RunFault, run_trace};
 
 /// Runs the rows of the file `trace` through a machine after its start, one tick for each, and prints a line for each tick. The
 /// numbers of a row are stored integers of these types, each within the type of its input. Nothing is written.
@@ -41,13 +41,9 @@ pub fn run_file<H: Host, S: Sink>(
     if host.open_read(trace).is_err() {
         return Ending::ReadFault;
     }
-    let mut totals = Totals {
-        ticks: 0,
-        steps: 0,
-        calls: 0,
-    };
-    match run_trace(alloc, machine, types, host, out, &mut totals) {
-        Ok(()) => Ending::Ran(totals),
+    let ran = run_trace(alloc, machine, types, host, out);
+    match ran.ended {
+        Ok(()) => Ending::Ran(ran.totals),
         Err(RunFault::Read) => Ending::ReadFault,
         Err(RunFault::Out) => Ending::PutFault,
         Err(RunFault::Trace(bad)) => Ending::BadTrace(bad),

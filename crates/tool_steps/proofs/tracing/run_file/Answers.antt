@@ -13,12 +13,12 @@ returns-in-Ok-clause-ends g c =
     c.args.host.now in
     let after : HostTold =
     told g.H.Host.files g.H.Host.rest g.H.Host.given g.H.Host.written g.H.Host.sure g.H.Host.read_faults g.H.Host.write_faults
-    c.run_trace.new.host in
+    c.run_trace-ran.new.host in
     let put : SinkTold = sink_told g.S.Sink.bytes g.S.Sink.faults c.args.out.now in
-    let later : SinkTold = sink_told g.S.Sink.bytes g.S.Sink.faults c.run_trace.new.sink in
+    let later : SinkTold = sink_told g.S.Sink.bytes g.S.Sink.faults c.run_trace-ran.new.sink in
     let left : LeavesHost before after =
     record { written = search rules; no_fault = record { read = search rules; write = search rules } } in
-    whole-file c.args.machine.now c.run_trace.new.machine c.args.types.now c.run_trace.new.totals
+    whole-file c.args.machine.now c.run_trace-ran.new.machine c.args.types.now c.run_trace-ran.result.totals
     (g.H.Host.rest c.open_read.new.self) (g.H.Host.given c.open_read.new.self) c.args.trace.now before after put later start (search rules) (search rules) left
     (search rules) (search rules)
 
@@ -30,12 +30,12 @@ returns-in-Err-Trace-clause-ends g c =
     c.args.host.now in
     let after : HostTold =
     told g.H.Host.files g.H.Host.rest g.H.Host.given g.H.Host.written g.H.Host.sure g.H.Host.read_faults g.H.Host.write_faults
-    c.run_trace.new.host in
+    c.run_trace-ran.new.host in
     let put : SinkTold = sink_told g.S.Sink.bytes g.S.Sink.faults c.args.out.now in
-    let later : SinkTold = sink_told g.S.Sink.bytes g.S.Sink.faults c.run_trace.new.sink in
+    let later : SinkTold = sink_told g.S.Sink.bytes g.S.Sink.faults c.run_trace-ran.new.sink in
     let left : LeavesHost before after =
     record { written = search rules; no_fault = record { read = search rules; write = search rules } } in
-    bad-file c.args.machine.now c.run_trace.new.machine c.args.types.now c.run_trace.new.totals
+    bad-file c.args.machine.now c.run_trace-ran.new.machine c.args.types.now c.run_trace-ran.result.totals
     (g.H.Host.rest c.open_read.new.self) (g.H.Host.given c.open_read.new.self) c.args.trace.now before after put later start (search rules) (search rules) _ left
     (search rules)
 
@@ -47,12 +47,12 @@ returns-in-Err-Stuck-clause-ends g c =
     c.args.host.now in
     let after : HostTold =
     told g.H.Host.files g.H.Host.rest g.H.Host.given g.H.Host.written g.H.Host.sure g.H.Host.read_faults g.H.Host.write_faults
-    c.run_trace.new.host in
+    c.run_trace-ran.new.host in
     let put : SinkTold = sink_told g.S.Sink.bytes g.S.Sink.faults c.args.out.now in
-    let later : SinkTold = sink_told g.S.Sink.bytes g.S.Sink.faults c.run_trace.new.sink in
+    let later : SinkTold = sink_told g.S.Sink.bytes g.S.Sink.faults c.run_trace-ran.new.sink in
     let left : LeavesHost before after =
     record { written = search rules; no_fault = record { read = search rules; write = search rules } } in
-    stuck-file c.args.machine.now c.run_trace.new.machine c.args.types.now c.run_trace.new.totals
+    stuck-file c.args.machine.now c.run_trace-ran.new.machine c.args.types.now c.run_trace-ran.result.totals
     (g.H.Host.rest c.open_read.new.self) (g.H.Host.given c.open_read.new.self) c.args.trace.now before after put later start (search rules) (search rules) _ left
     (search rules)
 
@@ -64,12 +64,12 @@ returns-in-Err-Out-clause-ends g c =
     c.args.host.now in
     let after : HostTold =
     told g.H.Host.files g.H.Host.rest g.H.Host.given g.H.Host.written g.H.Host.sure g.H.Host.read_faults g.H.Host.write_faults
-    c.run_trace.new.host in
+    c.run_trace-ran.new.host in
     let put : SinkTold = sink_told g.S.Sink.bytes g.S.Sink.faults c.args.out.now in
-    let later : SinkTold = sink_told g.S.Sink.bytes g.S.Sink.faults c.run_trace.new.sink in
+    let later : SinkTold = sink_told g.S.Sink.bytes g.S.Sink.faults c.run_trace-ran.new.sink in
     let left : LeavesHost before after =
     record { written = search rules; no_fault = record { read = search rules; write = search rules } } in
-    cut-file c.args.machine.now c.run_trace.new.machine c.args.types.now c.run_trace.new.totals
+    cut-file c.args.machine.now c.run_trace-ran.new.machine c.args.types.now c.run_trace-ran.result.totals
     (g.H.Host.rest c.open_read.new.self) (g.H.Host.given c.open_read.new.self) c.args.trace.now before after put later start (search rules) (search rules) left
     (search rules)
 
@@ -81,10 +81,10 @@ returns-in-Err-Read-clause-ends g c =
     c.args.host.now in
     let after : HostTold =
     told g.H.Host.files g.H.Host.rest g.H.Host.given g.H.Host.written g.H.Host.sure g.H.Host.read_faults g.H.Host.write_faults
-    c.run_trace.new.host in
+    c.run_trace-ran.new.host in
     let put : SinkTold = sink_told g.S.Sink.bytes g.S.Sink.faults c.args.out.now in
-    let later : SinkTold = sink_told g.S.Sink.bytes g.S.Sink.faults c.run_trace.new.sink in
-    lost-file c.args.machine.now c.run_trace.new.machine c.args.types.now c.run_trace.new.totals
+    let later : SinkTold = sink_told g.S.Sink.bytes g.S.Sink.faults c.run_trace-ran.new.sink in
+    lost-file c.args.machine.now c.run_trace-ran.new.machine c.args.types.now c.run_trace-ran.result.totals
     (g.H.Host.rest c.open_read.new.self) (g.H.Host.given c.open_read.new.self) c.args.trace.now before after put later start (search rules) (search rules) (search rules)
     (search rules) (search rules)
 
@@ -96,11 +96,11 @@ returns-in-Err-Memory-clause-ends g c =
     c.args.host.now in
     let after : HostTold =
     told g.H.Host.files g.H.Host.rest g.H.Host.given g.H.Host.written g.H.Host.sure g.H.Host.read_faults g.H.Host.write_faults
-    c.run_trace.new.host in
+    c.run_trace-ran.new.host in
     let put : SinkTold = sink_told g.S.Sink.bytes g.S.Sink.faults c.args.out.now in
-    let later : SinkTold = sink_told g.S.Sink.bytes g.S.Sink.faults c.run_trace.new.sink in
+    let later : SinkTold = sink_told g.S.Sink.bytes g.S.Sink.faults c.run_trace-ran.new.sink in
     let left : LeavesHost before after =
     record { written = search rules; no_fault = record { read = search rules; write = search rules } } in
-    forget-file c.args.machine.now c.run_trace.new.machine c.args.types.now c.run_trace.new.totals
+    forget-file c.args.machine.now c.run_trace-ran.new.machine c.args.types.now c.run_trace-ran.result.totals
     (g.H.Host.rest c.open_read.new.self) (g.H.Host.given c.open_read.new.self) c.args.trace.now before after put later start (search rules) (search rules) left
     (search rules) (search rules)
