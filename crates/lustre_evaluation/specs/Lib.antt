@@ -1,2 +1,3 @@
+pub mod Causes
 pub mod Results
 pub mod Views

@@ -30,6 +30,7 @@ pub(crate) fn holds(x: i64) -> bool
     x != 0
 }
 
+#[inline(always)]
 fn quotient(x: i64, y: i64) -> Result<i64, LusWhy>
     ensures { number_outcome result ≡ quotient x y }
 {
@@ -39,6 +40,7 @@ fn quotient(x: i64, y: i64) -> Result<i64, LusWhy>
     x.checked_div(y).ok_or(LusWhy::Overflow)
 }
 
+#[inline(always)]
 fn remainder(x: i64, y: i64) -> Result<i64, LusWhy>
     ensures { number_outcome result ≡ remainder x y }
 {
@@ -49,6 +51,7 @@ fn remainder(x: i64, y: i64) -> Result<i64, LusWhy>
 }
 
 /// The result of an operator.
+#[inline(always)]
 pub(crate) fn operate(op: LusOp, x: i64, y: i64) -> Result<i64, LusWhy>
     ensures { number_outcome result ≡ operate op x y }
 {

@@ -39,6 +39,7 @@ pub fn view_of<'a>(frame: &Frame<'a>, of: Placed, now: &'a [Option<i64>]) -> Vie
 }
 
 // What an expression of an instance comes to.
+#[inline(always)]
 fn answer_expression(
     frame: &Frame,
     now: &[Option<i64>],
@@ -72,6 +73,7 @@ fn answer_expression(
 ///
 /// `Waits` exactly where it needs a slot without a value, with the first such slot; `Never` where it needs one that is not there;
 /// `Fails` where it is undefined.
+#[inline(always)]
 pub fn answer(frame: &Frame, now: &[Option<i64>], slot: usize) -> Result<i64, Unmet>
     ensures outcome { result_outcome result
         ≡ slots.outcome (file_tree frame.now.file.now)

@@ -2,6 +2,7 @@
 #![tactic(auto)]
 
 mod arithmetic;
+mod cause;
 mod expressions;
 mod frames;
 mod outcome;
