@@ -64,7 +64,6 @@ int main(void) {
     struct root cruise;
     int32_t speed = 80 * FINE;
     root_start(&cruise);
-    cruise.y1 = 0;
     printf("  s     speed    target  throttle      trim\n");
     for (int tick = 0; tick < 44 * TICKS_PER_SECOND; tick++) {
         struct moment now = moment_at(tick);
