@@ -1,0 +1,17 @@
+mod Renamings
+mod Lines
+mod TurnedBodies
+mod FusedTurned
+mod FusedUniform
+mod PrunedUniform
+mod TurnedCalls
+mod KeptNames
+mod OwnPlaces
+mod Sites
+mod HelpersTurned
+mod InlinedTurned
+mod PublicCalls
+mod Owners
+mod SystemNames
+mod InlinedUniform
+mod SimplifiedUniform
